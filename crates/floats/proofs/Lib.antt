@@ -1,0 +1,5 @@
+pub mod Powers
+pub mod Patterns
+pub mod Grid
+pub mod Rounding
+pub mod Values

@@ -1,0 +1,14 @@
+-- `floats::trig::cosine_sum` meets its contract: its text is the definition's, with each constant by its value. Assumes nothing.
+use mathlib.Core.Path.{refl}
+use lib.Ieee.{ofBits, round}
+use Rattle.floats.specs.Rounded.{dec}
+use Rattle.floats.specs.Trig.{cosineSum, over}
+use Rattle.floats.proofs.trig.cosine_sum.Statement.{statement}
+use Rattle.floats.proofs.trig.cosine_sum.Tie as tie
+
+returns : tie.Need-returns
+unfolding cosineSum over dec ofBits round
+returns c = refl
+
+pub cosine-sum-spec : {M : Type 1} → statement M
+cosine-sum-spec = tie.close (tie.spec returns)
