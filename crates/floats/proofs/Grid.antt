@@ -116,4 +116,3 @@ by-count r r' F p F' p' same =
 
 pub neither-less : (p q : ℕ) → (p < q → ⊥) → (q < p → ⊥) → p ≡ q
 neither-less p q f g = le-antisymm (le-of-suc-le-suc (lt-of-not-le g)) (le-of-suc-le-suc (lt-of-not-le f))
-

@@ -7,7 +7,6 @@ use lib.Ieee.{Float, binary64, add, sub, mul, div, rem as fmod, neg, round, lt}
 infixl 65 _⊕_ _⊖_
 infixl 70 _⊗_ _⊘_ _rem_
 infix 75 ⊝_
-
 abbrev pub _⊕_ : Float → Float → Float
 _⊕_ = add binary64
 

@@ -1,0 +1,3 @@
+// Model, class and constants of an orbit: what the crates above share.
+pub mod model;
+pub mod propagator;
