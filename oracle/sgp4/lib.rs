@@ -1,0 +1,180 @@
+//! The unchanged sgp4 under a root of ours, built twice: `sgp4_own` with Rust's own floats, and
+//! `sgp4_ours`, without `std`, with those of the proved library. The functions below open to other
+//! crates what the crate keeps to itself; they work nothing out.
+#![cfg_attr(not(feature = "std"), no_std)]
+// the crate's near-earth part, which uses the rest of these files, is not built
+#![allow(dead_code)]
+
+include!(concat!(env!("OUT_DIR"), "/modules.rs"));
+
+pub use deep_space::ResonanceState;
+pub use gp::Error;
+pub use model::afspc_epoch_to_sidereal_time;
+pub use model::iau_epoch_to_sidereal_time;
+pub use model::Geopotential;
+pub use model::WGS72;
+pub use model::WGS84;
+pub use propagator::Constants;
+pub use propagator::Orbit;
+
+/// What a build is given beside the model, the orbit and the choice of a sidereal time.
+#[derive(Clone, Copy, Debug)]
+pub struct Given {
+    pub epoch: f64,
+    pub p1: f64,
+    pub a0: f64,
+    pub c1: f64,
+    pub b0: f64,
+    pub c4: f64,
+    pub k0: f64,
+    pub k1: f64,
+    pub k14: f64,
+    pub p2: f64,
+    pub p14: f64,
+    pub p15: f64,
+}
+
+pub fn build(geopotential: Geopotential, is_afspc: bool, orbit_0: Orbit, g: Given) -> Constants {
+    let sidereal_time = if is_afspc { afspc_epoch_to_sidereal_time } else { iau_epoch_to_sidereal_time };
+    deep_space::constants(
+        geopotential,
+        sidereal_time,
+        g.epoch,
+        orbit_0,
+        g.p1,
+        g.a0,
+        g.c1,
+        g.b0,
+        g.c4,
+        g.k0,
+        g.k1,
+        g.k14,
+        g.p2,
+        g.p14,
+        g.p15,
+    )
+}
+
+/// The constants' numbers in the order of a store's body, and how many there are: 21, 26 or 34.
+pub fn numbers(c: &Constants) -> ([f64; 34], usize) {
+    let (g, o) = (&c.geopotential, &c.orbit_0);
+    let propagator::Method::DeepSpace { eccentricity_dot, inclination_dot, resonant, .. } = &c.method else {
+        panic!("not a deep-space orbit");
+    };
+    let mut all = [0.0; 34];
+    let mut count = 0;
+    let mut put = |xs: &[f64]| {
+        all[count..count + xs.len()].copy_from_slice(xs);
+        count += xs.len();
+    };
+    put(&[g.ae, g.ke, g.j2, g.j3, g.j4]);
+    put(&[o.inclination, o.right_ascension, o.eccentricity]);
+    put(&[o.argument_of_perigee, o.mean_anomaly, o.mean_motion]);
+    put(&[c.right_ascension_dot, c.argument_of_perigee_dot, c.mean_anomaly_dot]);
+    put(&[c.c1, c.c4, c.k0, c.k1, *eccentricity_dot, *inclination_dot]);
+    match resonant {
+        propagator::Resonant::No { a0 } => put(&[*a0]),
+        propagator::Resonant::Yes { lambda_0, lambda_dot_0, sidereal_time_0, resonance } => {
+            put(&[*lambda_0, *lambda_dot_0, *sidereal_time_0]);
+            match resonance {
+                propagator::Resonance::OneDay { dr1, dr2, dr3 } => put(&[*dr1, *dr2, *dr3]),
+                propagator::Resonance::HalfDay {
+                    d2201,
+                    d2211,
+                    d3210,
+                    d3222,
+                    d4410,
+                    d4422,
+                    d5220,
+                    d5232,
+                    d5421,
+                    d5433,
+                    k14,
+                } => {
+                    put(&[*d2201, *d2211, *d3210, *d3222, *d4410, *d4422]);
+                    put(&[*d5220, *d5232, *d5421, *d5433, *k14]);
+                }
+            }
+        }
+    }
+    (all, count)
+}
+
+/// The fresh state, and none where the orbit is not resonant.
+pub fn fresh(c: &Constants) -> Option<ResonanceState> {
+    match &c.method {
+        propagator::Method::DeepSpace { resonant: propagator::Resonant::Yes { lambda_0, .. }, .. } => {
+            Some(ResonanceState::new(c.orbit_0.mean_motion, *lambda_0))
+        }
+        _ => None,
+    }
+}
+
+/// The orbit's six numbers, a, and p32 to p36.
+pub fn ask(
+    c: &Constants,
+    state: Option<&mut ResonanceState>,
+    t: f64,
+    p22: f64,
+    p23: f64,
+    is_afspc: bool,
+) -> Result<[f64; 12], Error> {
+    let propagator::Method::DeepSpace {
+        eccentricity_dot,
+        inclination_dot,
+        solar_perturbations,
+        lunar_perturbations,
+        resonant,
+    } = &c.method
+    else {
+        panic!("not a deep-space orbit");
+    };
+    let (o, a, p32, p33, p34, p35, p36) = c.deep_space_orbital_elements(
+        *eccentricity_dot,
+        *inclination_dot,
+        solar_perturbations,
+        lunar_perturbations,
+        resonant,
+        state,
+        t,
+        p22,
+        p23,
+        is_afspc,
+    )?;
+    Ok([
+        o.inclination,
+        o.right_ascension,
+        o.eccentricity,
+        o.argument_of_perigee,
+        o.mean_anomaly,
+        o.mean_motion,
+        a,
+        p32,
+        p33,
+        p34,
+        p35,
+        p36,
+    ])
+}
+
+// The state's fields are private, and Rust may lay them out in any order: where each lies is seen on
+// a state that is known.
+fn places() -> [usize; 3] {
+    let known: [f64; 3] = unsafe { core::mem::transmute(ResonanceState::new(2.0, 3.0)) };
+    [0.0, 2.0, 3.0].map(|x| known.iter().position(|&y| y == x).unwrap())
+}
+
+/// The state's time, mean motion and lambda.
+pub fn state_numbers(state: ResonanceState) -> [f64; 3] {
+    let laid: [f64; 3] = unsafe { core::mem::transmute(state) };
+    places().map(|place| laid[place])
+}
+
+/// The state with this time, mean motion and lambda.
+pub fn state_of(numbers: [f64; 3]) -> ResonanceState {
+    let mut laid = [0.0; 3];
+    for (place, x) in places().into_iter().zip(numbers) {
+        laid[place] = x;
+    }
+    unsafe { core::mem::transmute(laid) }
+}
