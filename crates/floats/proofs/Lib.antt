@@ -3,3 +3,4 @@ pub mod Patterns
 pub mod Grid
 pub mod Rounding
 pub mod Values
+pub mod Exact

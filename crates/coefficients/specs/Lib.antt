@@ -1,0 +1,3 @@
+pub mod Eccentricity
+pub mod OneDay
+pub mod HalfDay

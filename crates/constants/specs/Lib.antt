@@ -1,0 +1,4 @@
+pub mod Geometry
+pub mod Given
+pub mod Longitude
+pub mod Build

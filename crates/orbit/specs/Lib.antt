@@ -1,0 +1,4 @@
+pub mod Model
+pub mod Class
+pub mod Propagator
+pub mod Examples

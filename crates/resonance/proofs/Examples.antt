@@ -1,0 +1,11 @@
+-- The marked examples hold: each row by computation. Assumes nothing.
+use mathlib.Core.Path.{refl}
+use lib.Ieee.{round, sum, add, sub, neg, lt}
+use Rattle.floats.specs.Rounded.{dec}
+use Rattle.resonance.specs.Time.{refusal, plan, back}
+use Rattle.resonance.specs.Advance.{advanceOf}
+use Rattle.resonance.specs.Examples.{Examples}
+
+pub examples : Examples
+unfolding advanceOf plan back refusal dec round sum add sub neg lt
+examples c n l = ((refl, refl), ((refl, refl), ((refl, refl), ((refl, refl), ((refl, refl), ((refl, refl), (refl, ((refl, refl), ((refl, refl), (refl, (refl, tt)))))))))))

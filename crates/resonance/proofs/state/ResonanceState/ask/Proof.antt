@@ -1,0 +1,25 @@
+-- `resonance::state::ResonanceState::ask` meets its contract: each arm is that of the checks. Assumes nothing.
+use mathlib.Core.Path.{_≡_, refl, sym, ap, _∙_}
+use Rattle.resonance.specs.Ask.{stateAskOf}
+use borrow.Author.Needs.{needs}
+use Rattle.resonance.proofs.state.ResonanceState.ask.Statement.{statement}
+use Rattle.resonance.proofs.state.ResonanceState.ask.Tie as tie
+
+returns : tie.Need-returns
+unfolding stateAskOf
+returns c =
+    let c2 = c .before .before in
+    let c4 = c2 .before .before in
+    let c5 = c4 .before in
+    simp (sym (c5 .is-finite .ensures), sym (c4 .check-numbers .ensures), c2 .fault .given .1, c .given .ensures)
+
+returns-2 : tie.Need-returns-2
+unfolding stateAskOf
+returns-2 c =
+    let c1 = c .before in
+    let c3 = c1 .before .before in
+    let c4 = c3 .before in
+    simp (sym (c4 .is-finite .ensures), sym (c3 .check-numbers .ensures), c1 .enum-told .given .1, c .kind-ask .ensures)
+
+pub ask-spec : {M : Type 1} → statement M
+ask-spec = tie.close (tie.spec (λ c κs. tt) (λ c κs. tt) (λ c. search needs) (λ c κs. tt) (λ c. search needs) (λ c κs. tt) returns returns-2)

@@ -1,0 +1,8 @@
+pub mod Refusal
+pub mod Time
+pub mod Rates
+pub mod State
+pub mod Advance
+pub mod Ask
+pub mod Laws
+pub mod Examples
