@@ -1,4 +1,3 @@
 pub mod Model
 pub mod Class
 pub mod Propagator
-pub mod Examples

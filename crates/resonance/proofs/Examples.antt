@@ -1,11 +1,13 @@
 -- The marked examples hold: each row by computation. Assumes nothing.
 use mathlib.Core.Path.{refl}
-use lib.Ieee.{round, sum, add, sub, neg, lt}
+use lib.Ieee.{round, sum, add, sub, neg, lt, le}
 use Rattle.floats.specs.Rounded.{dec}
+use Rattle.orbit.specs.Class.{oneDay, halfDay}
+use Rattle.elements.specs.Elements.{inRange}
 use Rattle.resonance.specs.Time.{refusal, plan, back}
 use Rattle.resonance.specs.Advance.{advanceOf}
 use Rattle.resonance.specs.Examples.{Examples}
 
 pub examples : Examples
-unfolding advanceOf plan back refusal dec round sum add sub neg lt
-examples c n l = ((refl, refl), ((refl, refl), ((refl, refl), ((refl, refl), ((refl, refl), ((refl, refl), (refl, ((refl, refl), ((refl, refl), (refl, (refl, tt)))))))))))
+unfolding advanceOf plan back refusal oneDay halfDay inRange dec round sum add sub neg lt le
+examples c n l = ((refl, refl), ((refl, refl), ((refl, refl), ((refl, refl), ((refl, refl), ((refl, refl), (refl, ((refl, refl), ((refl, refl), (refl, (refl, (refl, (refl, (refl, (refl, tt)))))))))))))))
