@@ -1,0 +1,9 @@
+pub mod LittleEndian
+pub mod Laid
+pub mod Format
+pub mod Records
+pub mod Find
+pub mod Save
+pub mod Table
+pub mod Kept
+pub mod Examples
