@@ -3,4 +3,5 @@ pub mod Accepted
 pub mod Steps
 pub mod Walk
 pub mod Laws
+pub mod Restart
 pub mod Examples

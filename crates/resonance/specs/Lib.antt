@@ -5,4 +5,5 @@ pub mod State
 pub mod Advance
 pub mod Ask
 pub mod Laws
+pub mod Restart
 pub mod Examples
