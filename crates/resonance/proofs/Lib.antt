@@ -4,4 +4,5 @@ pub mod Steps
 pub mod Walk
 pub mod Laws
 pub mod Restart
+pub mod Demand
 pub mod Examples

@@ -116,15 +116,16 @@ module _ (i : Integrator) (n l : Float) where
 
 -- ---- the answer by the last node alone
 
-answerAt : Constants → Integrator → Float → Question → MaybeState → Answer
+pub answerAt : Constants → Integrator → Float → Question → MaybeState → Answer
 answerAt c i theta-0 q None = Refused RatesRefused
 answerAt c i theta-0 q (Some z) = nodeOf c i theta-0 z q
 
-pub record OnNode (a : StateAsked) (expected : Answer) (node : MaybeState) : Type 0 where
+pub record OnNode (a : StateAsked) (s : ResonanceState) (expected : Answer) (node : MaybeState) : Type 0 where
   pub answer : a .answer ≡ expected
+  pub given : (f : Fault) → a .answer ≡ Refused f → a .state ≡ s
   pub state : (o : Outcome) → a .answer ≡ Reached o → Some (a .state) ≡ node
 
-no-outcome : (f : Fault) (o : Outcome) {A : Type 0} → Refused f ≡ Reached o → A
+pub no-outcome : (f : Fault) (o : Outcome) {A : Type 0} → Refused f ≡ Reached o → A
 no-outcome f o p = absurd (subst (λ (x : Answer). isRefused x) p tt)
   where
     isRefused : Answer → Type 0
@@ -132,23 +133,23 @@ no-outcome f o p = absurd (subst (λ (x : Answer). isRefused x) p tt)
     isRefused (Reached o) = ⊥
 
 on-node : (c : Constants) (i : Integrator) (theta-0 : Float) (s : ResonanceState) (q : Question) (k : ℕ) (node : MaybeState)
-    → OnNode (advancedBy c i theta-0 s q (taken s k node)) (answerAt c i theta-0 q node) node
+    → OnNode (advancedBy c i theta-0 s q (taken s k node)) s (answerAt c i theta-0 q node) node
 unfolding answerAt
-on-node c i theta-0 s q k None = record { answer = refl; state = λ o p. no-outcome RatesRefused o p }
+on-node c i theta-0 s q k None = record { answer = refl; given = λ f p. refl; state = λ o p. no-outcome RatesRefused o p }
 on-node c i theta-0 s q k (Some z) = go (nodeOf c i theta-0 z q)
   where
-    go : (a : Answer) → OnNode (reachedBy s z k a) a (Some z)
-    go (Refused f) = record { answer = refl; state = λ o p. no-outcome f o p }
-    go (Reached r) = record { answer = refl; state = λ o p. refl }
+    go : (a : Answer) → OnNode (reachedBy s z k a) s a (Some z)
+    go (Refused f) = record { answer = refl; given = λ g p. refl; state = λ o p. no-outcome f o p }
+    go (Reached r) = record { answer = refl; given = λ f p. no-outcome f r (sym p); state = λ o p. refl }
 
 module _ (c : Constants) (i : Integrator) (n l theta-0 : Float) (q : Question) (s : ResonanceState) (w : Reaches i n l s) where
-  resonant : refusal (s .t) (q .t) ≡ Passed → OnNode (resonantAsk c i theta-0 s q) (answerAt c i theta-0 q (steps i (back (q .t)) (number (q .t)) (freshOf n l))) (steps i (back (q .t)) (number (q .t)) (freshOf n l))
+  pub resonant : refusal (s .t) (q .t) ≡ Passed → OnNode (resonantAsk c i theta-0 s q) s (answerAt c i theta-0 q (steps i (back (q .t)) (number (q .t)) (freshOf n l))) (steps i (back (q .t)) (number (q .t)) (freshOf n l))
   unfolding resonantAsk
   resonant p =
       let t = q .t in
       let k = number t - number (s .t) in
       let node = steps i (back t) (number t) (freshOf n l) in
-      subst (λ (a : Advanced). OnNode (advancedBy c i theta-0 s q a) (answerAt c i theta-0 q node) node)
+      subst (λ (a : Advanced). OnNode (advancedBy c i theta-0 s q a) s (answerAt c i theta-0 q node) node)
       (sym (advance-go i s t p ∙ ap (taken s k) (reach i n l s w t p)))
       (on-node c i theta-0 s q k node)
 
@@ -243,7 +244,7 @@ module _ (c : Constants) (lambda-0 lambda-dot-0 theta-0 : Float) (r : Resonance)
   onward-ask s w e = checked s w ∙ ap (checkedAsk c s q) e ∙ ap (kindAsk c s q) kind
 
   on-last : (s : ResonanceState) → Reaches I N lambda-0 s → numbersRefusal c q true ≡ Passed → NotSeven (stateAskOf c s q)
-      → OnNode (resonantAsk c I theta-0 s q) (answerAt c I theta-0 q (steps I (back (q .t)) (number (q .t)) (freshOf N lambda-0))) (steps I (back (q .t)) (number (q .t)) (freshOf N lambda-0))
+      → OnNode (resonantAsk c I theta-0 s q) s (answerAt c I theta-0 q (steps I (back (q .t)) (number (q .t)) (freshOf N lambda-0))) (steps I (back (q .t)) (number (q .t)) (freshOf N lambda-0))
   unfolding numbersRefusal
   on-last s w e seven =
       let t = timely (finite (q .t)) (atMost limit (q .t)) (finiteQuestion q && true && finiteConstants c) e in

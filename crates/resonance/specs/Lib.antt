@@ -6,4 +6,5 @@ pub mod Advance
 pub mod Ask
 pub mod Laws
 pub mod Restart
+pub mod Demand
 pub mod Examples
