@@ -6,6 +6,7 @@
 #![allow(dead_code)]
 
 include!(concat!(env!("OUT_DIR"), "/modules.rs"));
+mod third_body;
 
 pub use deep_space::ResonanceState;
 pub use gp::Error;
@@ -16,6 +17,12 @@ pub use model::WGS72;
 pub use model::WGS84;
 pub use propagator::Constants;
 pub use propagator::Orbit;
+pub use third_body::bodies;
+pub use third_body::effects;
+pub use third_body::give_effects;
+pub use third_body::give_nothing;
+pub use third_body::give_rates;
+pub use third_body::rates;
 
 /// What a build is given beside the model, the orbit and the choice of a sidereal time.
 #[derive(Clone, Copy, Debug)]
@@ -98,6 +105,58 @@ pub fn numbers(c: &Constants) -> ([f64; 34], usize) {
         }
     }
     (all, count)
+}
+
+/// The constants of these numbers, in the same order, of kind 0 non-resonant, 1 one-day, 2 half-day.
+/// They have no third_body: effects are to be given before an ask.
+pub fn of_numbers(kind: u32, x: &[f64; 34]) -> Constants {
+    let resonance = if kind == 1 {
+        propagator::Resonance::OneDay { dr1: x[23], dr2: x[24], dr3: x[25] }
+    } else {
+        propagator::Resonance::HalfDay {
+            d2201: x[23],
+            d2211: x[24],
+            d3210: x[25],
+            d3222: x[26],
+            d4410: x[27],
+            d4422: x[28],
+            d5220: x[29],
+            d5232: x[30],
+            d5421: x[31],
+            d5433: x[32],
+            k14: x[33],
+        }
+    };
+    let resonant = if kind == 0 {
+        propagator::Resonant::No { a0: x[20] }
+    } else {
+        propagator::Resonant::Yes { lambda_0: x[20], lambda_dot_0: x[21], sidereal_time_0: x[22], resonance }
+    };
+    Constants {
+        geopotential: Geopotential { ae: x[0], ke: x[1], j2: x[2], j3: x[3], j4: x[4] },
+        orbit_0: Orbit {
+            inclination: x[5],
+            right_ascension: x[6],
+            eccentricity: x[7],
+            argument_of_perigee: x[8],
+            mean_anomaly: x[9],
+            mean_motion: x[10],
+        },
+        right_ascension_dot: x[11],
+        argument_of_perigee_dot: x[12],
+        mean_anomaly_dot: x[13],
+        c1: x[14],
+        c4: x[15],
+        k0: x[16],
+        k1: x[17],
+        method: propagator::Method::DeepSpace {
+            eccentricity_dot: x[18],
+            inclination_dot: x[19],
+            solar_perturbations: third_body::NONE,
+            lunar_perturbations: third_body::NONE,
+            resonant,
+        },
+    }
 }
 
 /// The fresh state, and none where the orbit is not resonant.

@@ -1,10 +1,12 @@
-//! What the programs `floats` and `vectors_floats` share.
+//! What the programs share.
 // constants stand as docs/FLOATS.md has them
 #![allow(clippy::approx_constant)]
 
 pub mod cube;
+pub mod orbits;
 pub mod random;
 pub mod recipe;
+pub mod rust;
 
 use std::f64::consts::TAU;
 

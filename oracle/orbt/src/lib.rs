@@ -1,5 +1,8 @@
-//! The C interface of the proved library (include/orbt.h), and its float functions as Rust calls.
+//! The C interface of the proved library (include/orbt.h), as Rust calls: the float functions, and in
+//! `orbits` the calls on orbits.
 #![no_std]
+
+pub mod orbits;
 
 /// The functions as the static library has them.
 pub mod c {
@@ -14,6 +17,28 @@ pub mod c {
         pub fn orbt_sin(x: f64, sine: *mut f64) -> u32;
         pub fn orbt_cos(x: f64, cosine: *mut f64) -> u32;
         pub fn orbt_sin_cos(x: f64, sine: *mut f64, cosine: *mut f64) -> u32;
+        pub fn orbt_class(n: f64, e: f64) -> u32;
+        pub fn orbt_sidereal_time(which: u32, epoch: f64, theta: *mut f64) -> u32;
+        pub fn orbt_geometry(right_ascension: f64, epoch: f64, bodies: *mut [f64; 14]) -> u32;
+        pub fn orbt_build(
+            which: u32,
+            flag: u32,
+            given: *const [f64; 31],
+            kind: *mut u32,
+            constants: *mut [f64; 34],
+        ) -> u32;
+        pub fn orbt_fresh(kind: u32, constants: *const [f64; 34], state: *mut [f64; 3]) -> u32;
+        pub fn orbt_step(kind: u32, constants: *const [f64; 34], back: u32, state: *mut [f64; 3]) -> u32;
+        pub fn orbt_ask(
+            kind: u32,
+            flag: u32,
+            constants: *const [f64; 34],
+            held: u32,
+            state: *mut [f64; 3],
+            question: *const [f64; 13],
+            elements: *mut [f64; 12],
+            steps: *mut u32,
+        ) -> u32;
     }
 }
 
@@ -21,7 +46,7 @@ pub mod c {
 pub type Answer = Result<f64, u32>;
 
 // A refused call must leave the float that it was handed: this one.
-const KEPT: f64 = 12345.678;
+pub(crate) const KEPT: f64 = 12345.678;
 
 fn answer(call: unsafe extern "C" fn(f64, *mut f64) -> u32, x: f64) -> Answer {
     let mut y = KEPT;
