@@ -5,6 +5,4 @@ pub mod State
 pub mod Advance
 pub mod Ask
 pub mod Laws
-pub mod Restart
-pub mod Demand
 pub mod Examples

@@ -21,27 +21,27 @@ use Rattle.orbit.specs.declared.propagator.Constants.{Constants}
 use Rattle.elements.specs.Elements.{finiteQuestion}
 use Rattle.elements.specs.declared.elements.Question.{Question}
 use Rattle.elements.specs.declared.elements.Outcome.{Outcome}
 use Rattle.resonance.specs.declared.time.Fault.{Fault}
 use Rattle.resonance.specs.declared.time.Fault.the-variants.{TimeNotFinite, TimeBeyondLimit, StateMisplaced, NotOnward, RatesRefused}
 use Rattle.resonance.specs.declared.time.Checked.{Checked}
 use Rattle.resonance.specs.declared.time.Checked.the-variants.{Passed, Refused as refusedCheck}
 use Rattle.resonance.specs.declared.rates.Integrator.{Integrator}
 use Rattle.resonance.specs.declared.state.ResonanceState.{ResonanceState}
 use Rattle.resonance.specs.declared.state.MaybeState.{MaybeState}
 use Rattle.resonance.specs.declared.state.MaybeState.the-variants.{None, Some}
 use Rattle.resonance.specs.declared.advance.Advanced.{Advanced}
 use Rattle.resonance.specs.declared.ask.Answer.{Answer}
 use Rattle.resonance.specs.declared.ask.Answer.the-variants.{Refused, Reached}
 use Rattle.resonance.specs.declared.ask.StateAsked.{StateAsked}
 use Rattle.resonance.specs.Time.{limit, number, back, placed, onward, refusal}
 use Rattle.resonance.specs.State.{freshOf, finiteState, integrator}
 use Rattle.resonance.specs.Advance.{steps, taken, advanceOf}
 use Rattle.resonance.specs.Ask.{refusalBy, numbersRefusal, nodeOf, reachedBy, advancedBy, resonantAsk, kindAsk, checkedAsk, stateAskOf}
-use Rattle.resonance.specs.Restart.{Reaches, NotSeven, SameAnswer, Restart}
+use Rattle.controller.specs.Restart.{Reaches, NotSeven, SameAnswer, Restart}
 use Rattle.resonance.proofs.Placed.{At, signOf, at-num, at-number}
 use Rattle.resonance.proofs.Accepted.{accepted-at, accepted-le}
 use Rattle.resonance.proofs.Steps.{Moved, step-is, steps-on, steps-place, steps-keep}
 use Rattle.resonance.proofs.Walk.{advance-refused, advance-go}
 
 -- ---- a state that steps reach stands at a time that it may have
 
