@@ -24,41 +24,41 @@ pub use third_body::give_nothing;
 pub use third_body::give_rates;
 pub use third_body::rates;
 
-/// What a build is given beside the model, the orbit and the choice of a sidereal time.
-#[derive(Clone, Copy, Debug)]
-pub struct Given {
-    pub epoch: f64,
-    pub p1: f64,
-    pub a0: f64,
-    pub c1: f64,
-    pub b0: f64,
-    pub c4: f64,
-    pub k0: f64,
-    pub k1: f64,
-    pub k14: f64,
-    pub p2: f64,
-    pub p14: f64,
-    pub p15: f64,
+// model and orbit of the first eleven numbers of a build, or of constants
+fn model_and_orbit(x: &[f64]) -> (Geopotential, Orbit) {
+    let geopotential = Geopotential { ae: x[0], ke: x[1], j2: x[2], j3: x[3], j4: x[4] };
+    let orbit_0 = Orbit {
+        inclination: x[5],
+        right_ascension: x[6],
+        eccentricity: x[7],
+        argument_of_perigee: x[8],
+        mean_anomaly: x[9],
+        mean_motion: x[10],
+    };
+    (geopotential, orbit_0)
 }
 
-pub fn build(geopotential: Geopotential, is_afspc: bool, orbit_0: Orbit, g: Given) -> Constants {
+/// The build of 21 numbers in the order of the library's, and of b0 and p2, which it has not.
+pub fn build(is_afspc: bool, x: &[f64; 21], b0: f64, p2: f64) -> Constants {
     let sidereal_time = if is_afspc { afspc_epoch_to_sidereal_time } else { iau_epoch_to_sidereal_time };
+    let (geopotential, orbit_0) = model_and_orbit(x);
+    let [epoch, p1, a0, c1, c4, k0, k1, k14, p14, p15] = core::array::from_fn(|k| x[11 + k]);
     deep_space::constants(
         geopotential,
         sidereal_time,
-        g.epoch,
+        epoch,
         orbit_0,
-        g.p1,
-        g.a0,
-        g.c1,
-        g.b0,
-        g.c4,
-        g.k0,
-        g.k1,
-        g.k14,
-        g.p2,
-        g.p14,
-        g.p15,
+        p1,
+        a0,
+        c1,
+        b0,
+        c4,
+        k0,
+        k1,
+        k14,
+        p2,
+        p14,
+        p15,
     )
 }
 
@@ -132,16 +132,10 @@ pub fn of_numbers(kind: u32, x: &[f64; 34]) -> Constants {
     } else {
         propagator::Resonant::Yes { lambda_0: x[20], lambda_dot_0: x[21], sidereal_time_0: x[22], resonance }
     };
+    let (geopotential, orbit_0) = model_and_orbit(x);
     Constants {
-        geopotential: Geopotential { ae: x[0], ke: x[1], j2: x[2], j3: x[3], j4: x[4] },
-        orbit_0: Orbit {
-            inclination: x[5],
-            right_ascension: x[6],
-            eccentricity: x[7],
-            argument_of_perigee: x[8],
-            mean_anomaly: x[9],
-            mean_motion: x[10],
-        },
+        geopotential,
+        orbit_0,
         right_ascension_dot: x[11],
         argument_of_perigee_dot: x[12],
         mean_anomaly_dot: x[13],

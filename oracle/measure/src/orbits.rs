@@ -104,14 +104,21 @@ impl Orbit {
         }
     }
 
-    /// What a build is given, with the ten rates of third_body.
-    pub fn given(&self, rates: &[f64; 10]) -> [f64; 31] {
-        let mut all = [0.0; 31];
+    /// What a build is given: model, elements, and the numbers beside them.
+    pub fn numbers(&self) -> [f64; 21] {
+        let mut all = [0.0; 21];
         all[..5].copy_from_slice(&model(self.is_wgs72));
         all[5..11].copy_from_slice(&self.elements);
-        all[11..21].copy_from_slice(&[
+        all[11..].copy_from_slice(&[
             self.epoch, self.p1, self.a0, self.c1, self.c4, self.k0, self.k1, self.k14, self.p14, self.p15,
         ]);
+        all
+    }
+
+    /// The same with the ten rates of third_body.
+    pub fn given(&self, rates: &[f64; 10]) -> [f64; 31] {
+        let mut all = [0.0; 31];
+        all[..21].copy_from_slice(&self.numbers());
         all[21..].copy_from_slice(rates);
         all
     }
@@ -226,8 +233,9 @@ fn exponential(line: &str, from: usize) -> f64 {
     sign * digits.parse().unwrap_or(0.0)
 }
 
-/// The sets of a text that are of deep space: 225 minutes or more to a turn.
-pub fn published(text: &str) -> Vec<Published> {
+/// The sets of a file that are of deep space: 225 minutes or more to a turn.
+pub fn published(path: &str) -> Vec<Published> {
+    let text = std::fs::read_to_string(path).expect("no such file of element sets");
     let lines: Vec<&str> = text.lines().filter(|line| line.len() >= 68 && !line.starts_with('#')).collect();
     let mut sets = vec![];
     for pair in lines.windows(2) {

@@ -44,30 +44,7 @@ macro_rules! rust {
             }
 
             fn build(x: &Orbit) -> $sgp4::Constants {
-                let model = if x.is_wgs72 { $sgp4::WGS72 } else { $sgp4::WGS84 };
-                let orbit_0 = $sgp4::Orbit {
-                    inclination: x.elements[0],
-                    right_ascension: x.elements[1],
-                    eccentricity: x.elements[2],
-                    argument_of_perigee: x.elements[3],
-                    mean_anomaly: x.elements[4],
-                    mean_motion: x.elements[5],
-                };
-                let given = $sgp4::Given {
-                    epoch: x.epoch,
-                    p1: x.p1,
-                    a0: x.a0,
-                    c1: x.c1,
-                    b0: x.b0,
-                    c4: x.c4,
-                    k0: x.k0,
-                    k1: x.k1,
-                    k14: x.k14,
-                    p2: x.p2,
-                    p14: x.p14,
-                    p15: x.p15,
-                };
-                $sgp4::build(model, x.is_afspc_time, orbit_0, given)
+                $sgp4::build(x.is_afspc_time, &x.numbers(), x.b0, x.p2)
             }
 
             fn numbers(c: &$sgp4::Constants) -> (u32, [f64; 34]) {

@@ -16,32 +16,17 @@ macro_rules! runs {
             let n = [0.0043, 0.0087, 0.0065][run % 3] * (1.0 + r.within(0.01));
             let e = if run % 3 == 1 { 0.55 + 0.2 * r.unit() } else { 0.1 * r.unit() };
             let i = if run % 9 < 3 { 0.01 + 0.1 * r.unit() } else { 0.3 + 2.5 * r.unit() };
-            let orbit = $sgp4::Orbit {
-                inclination: i,
-                right_ascension: TAU * r.unit(),
-                eccentricity: e,
-                argument_of_perigee: TAU * r.unit(),
-                mean_anomaly: TAU * r.unit(),
-                mean_motion: n,
-            };
-            let p1 = i.cos();
-            let p2 = 1.0 - e * e;
-            let given = $sgp4::Given {
-                epoch,
-                p1,
-                a0: ($sgp4::WGS84.ke / n).powf(2.0 / 3.0),
-                c1: 1e-12,
-                b0: p2.sqrt(),
-                c4: 1e-12,
-                k0: 1e-14,
-                k1: 1.5e-12,
-                k14: 1e-6,
-                p2,
-                p14: -1e-6,
-                p15: n,
-            };
-            let (node, perigee) = (orbit.right_ascension, orbit.argument_of_perigee);
-            let c = $sgp4::build($sgp4::WGS84, run % 2 == 0, orbit, given);
+            let (node, perigee, anomaly) = (TAU * r.unit(), TAU * r.unit(), TAU * r.unit());
+            let $sgp4::Geopotential { ae, ke, j2, j3, j4 } = $sgp4::WGS84;
+            let (p1, p2, a0) = (i.cos(), 1.0 - e * e, (ke / n).powf(2.0 / 3.0));
+            #[rustfmt::skip]
+            let given = [
+                ae, ke, j2, j3, j4,
+                    i, node, e, perigee, anomaly, n,
+                    // epoch, p1, a0, c1, c4, k0, k1, k14, p14, p15
+                    epoch, p1, a0, 1e-12, 1e-12, 1e-14, 1.5e-12, 1e-6, -1e-6, n,
+                ];
+            let c = $sgp4::build(run % 2 == 0, &given, p2.sqrt(), p2);
             let (numbers, count) = $sgp4::numbers(&c);
             assert_eq!(count, [26, 34, 21][run % 3]);
             all.extend(&numbers[..count]);

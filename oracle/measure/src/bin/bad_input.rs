@@ -3,6 +3,7 @@
 //! may never return is made by a second run of this program, which is ended after a while.
 use measure::orbits::{question, whole, Choice, Orbit};
 use measure::rust::{Own, Reply, Rust};
+use measure::tally::verdict;
 use orbt::orbits::{ask, build, fresh, geometry, sidereal_time, Constants, State};
 use std::panic::{catch_unwind, AssertUnwindSafe};
 use std::process::{Command, ExitCode, Stdio};
@@ -349,9 +350,5 @@ fn main() -> ExitCode {
         table.row(&input, expected, through(&names, &Own::bodies()), ours);
     }
     println!("\n{} inputs, {} other than listed", table.count, table.wrong);
-    if table.wrong == 0 {
-        ExitCode::SUCCESS
-    } else {
-        ExitCode::FAILURE
-    }
+    verdict(table.wrong == 0)
 }

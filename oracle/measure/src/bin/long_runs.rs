@@ -6,7 +6,7 @@
 //! Prints a row to a run, and ends with 1 where anything else differs.
 use measure::orbits::{published, question, whole, Orbit};
 use measure::rust::{Ours, Own, Rust};
-use measure::same;
+use measure::tally::{decimal, verdict, Tally, EQUAL};
 use orbt::orbits::{ask, build, fresh, step};
 use std::process::ExitCode;
 
@@ -15,26 +15,20 @@ const BY: u32 = 1_024;
 
 struct Run {
     steps: u32,
-    numbers: u64,
-    differed: u64,
-    worst: f64,
+    tally: Tally,
     ends: String,
 }
 
 impl Run {
+    // the row names the run, and the tally the step
     fn take(&mut self, ours: &[f64], rust: &[f64]) {
-        for (a, b) in ours.iter().zip(rust) {
-            self.numbers += 1;
-            if !same(*a, *b) {
-                self.differed += 1;
-                let apart = (a - b).abs();
-                self.worst = self.worst.max(if apart.is_nan() { f64::INFINITY } else { apart });
-            }
-        }
+        let steps = self.steps;
+        self.tally.take(ours, rust, || format!("after step {steps}"));
     }
 
     fn holds(&mut self, is_so: bool) {
-        self.take(&[is_so as u32 as f64], &[1.0]);
+        let steps = self.steps;
+        self.tally.holds(is_so, || format!("after step {steps}"));
     }
 }
 
@@ -43,7 +37,7 @@ fn run(x: &Orbit, is_back: bool) -> Option<(u32, Run)> {
     let ours = build(x.is_afspc_time, x.flag as u32, &x.given(&Ours::rates())).expect("a build is refused");
     let (mut state, mut rust_state) = (fresh(&ours)?, Ours::fresh(&rust));
     let way = if is_back { -720.0 } else { 720.0 };
-    let mut run = Run { steps: 0, numbers: 0, differed: 0, worst: 0.0, ends: "the limit".to_string() };
+    let mut run = Run { steps: 0, tally: Tally::new(EQUAL), ends: "the limit".to_string() };
     run.take(&state, &rust_state.unwrap());
     for k in 1..=LIMIT {
         let asked = question(&ours.numbers, way * k as f64);
@@ -95,7 +89,7 @@ fn main() -> ExitCode {
         eprintln!("no published sets: python3-sgp4 is not installed, and ORBT_SETS names none");
         return ExitCode::SUCCESS;
     };
-    let sets = published(&std::fs::read_to_string(path).expect("no such file of element sets"));
+    let sets = published(&path);
     println!("| Set | Kind | Direction | Steps | Numbers | Differed | Worst | Ends at |");
     println!("|---|---|---|---|---|---|---|---|");
     let (mut runs, mut steps, mut wrong) = (0, 0, 0);
@@ -109,20 +103,19 @@ fn main() -> ExitCode {
                 ["", "one-day", "half-day"][kind as usize],
                 if is_back { "back" } else { "on" },
                 run.steps,
-                run.numbers,
-                run.differed,
-                if run.worst == 0.0 { "-".to_string() } else { format!("{:.1e}", run.worst) },
+                run.tally.count,
+                run.tally.differed,
+                run.tally.worst(decimal),
                 run.ends
             );
             runs += 1;
             steps += run.steps as u64;
-            wrong += run.differed;
+            wrong += run.tally.wrong;
+            if run.tally.wrong > 0 {
+                eprintln!("{}: the worst {}", set.satellite, run.tally.at);
+            }
         }
     }
     println!("\n{steps} steps in {runs} runs, {wrong} numbers differed");
-    if wrong == 0 {
-        ExitCode::SUCCESS
-    } else {
-        ExitCode::FAILURE
-    }
+    verdict(wrong == 0)
 }

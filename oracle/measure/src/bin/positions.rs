@@ -3,6 +3,7 @@
 //! a set, and ends with 1 where a position is further off than the bound.
 use measure::orbits::{model, published, question, whole, Orbit};
 use measure::rust::{Own, Rust};
+use measure::tally::verdict;
 use orbt::orbits::{ask, build, class, fresh};
 use std::f64::consts::TAU;
 use std::process::ExitCode;
@@ -121,7 +122,7 @@ fn main() -> ExitCode {
         eprintln!("no published positions: python3-sgp4 is not installed");
         return ExitCode::SUCCESS;
     };
-    let sets = published(&std::fs::read_to_string(sets).expect("no such file of element sets"));
+    let sets = published(&sets);
     let text = std::fs::read_to_string(positions).expect("no such file of positions");
     println!(
         "| Set | Kind | Times | Refused alike | Differed | Worst | Velocity, km/s | From sgp4's own, km |"
@@ -144,9 +145,5 @@ fn main() -> ExitCode {
         wrong += row.off;
     }
     println!("\n{count} positions, {refused} refused alike, {wrong} further off than {BOUND:e} km");
-    if wrong == 0 {
-        ExitCode::SUCCESS
-    } else {
-        ExitCode::FAILURE
-    }
+    verdict(wrong == 0)
 }

@@ -131,31 +131,8 @@ impl Vectors {
             R => {
                 let rates: &[f64; 10] = given[21..].try_into().unwrap();
                 sgp4_ours::give_rates(rates);
-                let g = &given;
-                let model = sgp4_ours::Geopotential { ae: g[0], ke: g[1], j2: g[2], j3: g[3], j4: g[4] };
-                let orbit_0 = sgp4_ours::Orbit {
-                    inclination: g[5],
-                    right_ascension: g[6],
-                    eccentricity: g[7],
-                    argument_of_perigee: g[8],
-                    mean_anomaly: g[9],
-                    mean_motion: g[10],
-                };
-                let rest = sgp4_ours::Given {
-                    epoch: g[11],
-                    p1: g[12],
-                    a0: g[13],
-                    c1: g[14],
-                    b0: 1.0,
-                    c4: g[15],
-                    k0: g[16],
-                    k1: g[17],
-                    k14: g[18],
-                    p2: 1.0,
-                    p14: g[19],
-                    p15: g[20],
-                };
-                let (kind, numbers) = Ours::numbers(&sgp4_ours::build(model, is_afspc, orbit_0, rest));
+                let numbers: &[f64; 21] = given[..21].try_into().unwrap();
+                let (kind, numbers) = Ours::numbers(&sgp4_ours::build(is_afspc, numbers, 1.0, 1.0));
                 sgp4_ours::give_nothing();
                 let ours = ours.unwrap_or_else(|number| panic!("a build is refused {number}"));
                 assert!(ours.kind == kind && ours.numbers.iter().zip(&numbers).all(|(a, b)| same(*a, *b)));

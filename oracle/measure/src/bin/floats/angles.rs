@@ -1,6 +1,7 @@
 //! Sine, cosine and atan2, beside Rust's own.
-use crate::table::{Bound, Family, Row, Table};
+use crate::table::{Family, Row, Table, NEAR};
 use measure::random::Random;
+use measure::tally::EQUAL;
 use measure::*;
 use std::f64::consts::PI;
 
@@ -88,11 +89,11 @@ const REFUSED_ANGLES: Family<f64> = ("beyond the limit, infinities, NaNs", |f| {
 
 pub fn sines(table: &mut Table) {
     let (mut sin, mut cos) = (vec![], vec![]);
-    let mut both = Row::new("sin_cos", "all of these", "sin and cos", Bound::Equal);
-    let mut recipe = Row::new("sin_cos", "all of these", "the recipe in Rust", Bound::Equal);
+    let mut both = Row::new("sin_cos", "all of these", "sin and cos", EQUAL);
+    let mut recipe = Row::new("sin_cos", "all of these", "the recipe in Rust", EQUAL);
     for (inputs, family) in ANGLES {
-        let mut sin_row = Row::new("sin", inputs, "Rust's own", Bound::Near);
-        let mut cos_row = Row::new("cos", inputs, "Rust's own", Bound::Near);
+        let mut sin_row = Row::new("sin", inputs, "Rust's own", NEAR);
+        let mut cos_row = Row::new("cos", inputs, "Rust's own", NEAR);
         family(&mut |x| {
             let (s, c) = (orbt::sin(x).unwrap_or(f64::NAN), orbt::cos(x).unwrap_or(f64::NAN));
             sin_row.take(s, x.sin(), &[x]);
@@ -108,7 +109,7 @@ pub fn sines(table: &mut Table) {
     table.add_with_sum(cos);
     table.add(vec![both, recipe]);
 
-    let mut refused = Row::new("sin, cos, sin_cos", REFUSED_ANGLES.0, "refusal 9", Bound::Equal);
+    let mut refused = Row::new("sin, cos, sin_cos", REFUSED_ANGLES.0, "refusal 9", EQUAL);
     REFUSED_ANGLES.1(&mut |x| {
         let is_so = orbt::sin(x) == Err(9) && orbt::cos(x) == Err(9) && orbt::sin_cos(x) == Err(9);
         refused.holds(is_so, &[x])
@@ -116,8 +117,8 @@ pub fn sines(table: &mut Table) {
     table.add(vec![refused]);
 
     for (inputs, family) in FURTHER_ANGLES {
-        let mut sin_row = Row::new("sin, note", inputs, "the recipe in Rust with Rust's own", Bound::Near);
-        let mut cos_row = Row::new("cos, note", inputs, "the recipe in Rust with Rust's own", Bound::Near);
+        let mut sin_row = Row::new("sin, note", inputs, "the recipe in Rust with Rust's own", NEAR);
+        let mut cos_row = Row::new("cos, note", inputs, "the recipe in Rust with Rust's own", NEAR);
         family(&mut |x| {
             let (s, c) = measure::recipe::sin_cos(x);
             sin_row.take(s, x.sin(), &[x]);
@@ -200,14 +201,14 @@ const POINTS: [Family<(f64, f64)>; 9] = [
 pub fn arcs(table: &mut Table) {
     let mut rows = vec![];
     for (inputs, family) in POINTS {
-        let mut row = Row::new("atan2", inputs, "Rust's own", Bound::Near);
+        let mut row = Row::new("atan2", inputs, "Rust's own", NEAR);
         family(&mut |(y, x)| row.take(orbt::atan2(y, x), y.atan2(x), &[y, x]));
         rows.push(row);
     }
     table.add_with_sum(rows);
 
     // a zero has its sign, which a difference does not show
-    let mut row = Row::new("atan2", "y is 0: signs of zeros", "Rust's own, by bits", Bound::Equal);
+    let mut row = Row::new("atan2", "y is 0: signs of zeros", "Rust's own, by bits", EQUAL);
     let mut r = Random::stream(19);
     for _ in 0..1_000_000 {
         let (y, x) = (r.signed(0.0), r.finite());
@@ -217,7 +218,7 @@ pub fn arcs(table: &mut Table) {
     }
     table.add(vec![row]);
 
-    let mut row = Row::new("atan2", "an infinity or a NaN, with any float", "a NaN", Bound::Equal);
+    let mut row = Row::new("atan2", "an infinity or a NaN, with any float", "a NaN", EQUAL);
     for _ in 0..1_000_000 {
         for z in [f64::INFINITY, f64::NEG_INFINITY, f64::NAN] {
             let a = r.any();

@@ -8,6 +8,7 @@ mod roots;
 mod table;
 mod whole;
 
+use measure::tally::verdict;
 use std::process::ExitCode;
 
 fn main() -> ExitCode {
@@ -19,9 +20,5 @@ fn main() -> ExitCode {
     whole::powers(&mut table);
     angles::sines(&mut table);
     angles::arcs(&mut table);
-    if table.print() {
-        ExitCode::SUCCESS
-    } else {
-        ExitCode::FAILURE
-    }
+    verdict(table.print())
 }

@@ -1,6 +1,7 @@
 //! The two roots and the two powers by them.
-use crate::table::{Bound, Family, Row, Table};
+use crate::table::{Family, Row, Table};
 use measure::random::Random;
+use measure::tally::{EQUAL, NOTE};
 use measure::*;
 
 const SQUARES: [Family<f64>; 5] = [
@@ -38,16 +39,12 @@ const SQUARES: [Family<f64>; 5] = [
 
 pub fn square_roots(table: &mut Table) {
     let mut rows = vec![];
-    let mut refused = Row::new("sqrt", "those of these below 0, infinite or NaN", "refusal 12", Bound::Equal);
-    let mut powers = Row::new("three_halves", "all of sqrt's", "x times ours sqrt", Bound::Equal);
-    let mut note = Row::new(
-        "three_halves, note",
-        "those of these that are normal",
-        "Rust's powf(1.5), relative",
-        Bound::None,
-    );
+    let mut refused = Row::new("sqrt", "those of these below 0, infinite or NaN", "refusal 12", EQUAL);
+    let mut powers = Row::new("three_halves", "all of sqrt's", "x times ours sqrt", EQUAL);
+    let mut note =
+        Row::new("three_halves, note", "those of these that are normal", "Rust's powf(1.5), relative", NOTE);
     for (inputs, family) in SQUARES {
-        let mut row = Row::new("sqrt", inputs, "Rust's own", Bound::Equal);
+        let mut row = Row::new("sqrt", inputs, "Rust's own", EQUAL);
         family(&mut |x| {
             let root = orbt::sqrt(x);
             let power = orbt::three_halves(x);
@@ -111,12 +108,12 @@ const CUBES: [Family<f64>; 4] = [
 
 pub fn cube_roots(table: &mut Table) {
     let mut rows = vec![];
-    let mut powers = Row::new("two_thirds", "all of cbrt's", "ours cbrt, squared", Bound::Equal);
+    let mut powers = Row::new("two_thirds", "all of cbrt's", "ours cbrt, squared", EQUAL);
     let own = "Rust's powf(2/3), relative";
-    let mut note = Row::new("two_thirds, note", "all of cbrt's", own, Bound::None);
-    let mut note_near = Row::new("two_thirds, note", "1/4 to 1024, as in an ask", own, Bound::None);
+    let mut note = Row::new("two_thirds, note", "all of cbrt's", own, NOTE);
+    let mut note_near = Row::new("two_thirds, note", "1/4 to 1024, as in an ask", own, NOTE);
     for (inputs, family) in CUBES {
-        let mut row = Row::new("cbrt", inputs, "exact cubes", Bound::Equal);
+        let mut row = Row::new("cbrt", inputs, "exact cubes", EQUAL);
         family(&mut |x| {
             // a subnormal that is drawn may be 0
             if x == 0.0 {
@@ -133,8 +130,7 @@ pub fn cube_roots(table: &mut Table) {
     }
     table.add_with_sum(rows);
 
-    let mut refused =
-        Row::new("cbrt, two_thirds", "zeros, negatives, infinities, NaNs", "refusal 12", Bound::Equal);
+    let mut refused = Row::new("cbrt, two_thirds", "zeros, negatives, infinities, NaNs", "refusal 12", EQUAL);
     let mut r = Random::stream(34);
     for x in [0.0, -0.0, f64::INFINITY, f64::NEG_INFINITY, f64::NAN, -5e-324] {
         refused.holds(orbt::cbrt(x) == Err(12) && orbt::two_thirds(x) == Err(12), &[x]);

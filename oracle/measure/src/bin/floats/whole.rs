@@ -1,6 +1,7 @@
 //! Floor, remainder and whole powers, beside Rust's own.
-use crate::table::{Bound, Family, Row, Table};
+use crate::table::{Family, Row, Table};
 use measure::random::Random;
+use measure::tally::EQUAL;
 use measure::*;
 use std::f64::consts::TAU;
 
@@ -44,7 +45,7 @@ const FLOORED: [Family<f64>; 5] = [
 pub fn floors(table: &mut Table) {
     let mut rows = vec![];
     for (inputs, family) in FLOORED {
-        let mut row = Row::new("floor", inputs, "Rust's own", Bound::Equal);
+        let mut row = Row::new("floor", inputs, "Rust's own", EQUAL);
         family(&mut |x| row.take(orbt::floor(x), x.floor(), &[x]));
         rows.push(row);
     }
@@ -97,7 +98,7 @@ const DIVIDED: [Family<(f64, f64)>; 6] = [
 pub fn remainders(table: &mut Table) {
     let mut rows = vec![];
     for (inputs, family) in DIVIDED {
-        let mut row = Row::new("rem_euclid", inputs, "Rust's own", Bound::Equal);
+        let mut row = Row::new("rem_euclid", inputs, "Rust's own", EQUAL);
         family(&mut |(x, m)| row.take(orbt::rem_euclid(x, m), x.rem_euclid(m), &[x, m]));
         rows.push(row);
     }
@@ -112,7 +113,7 @@ const POWERS: [Power; 3] =
 
 pub fn powers(table: &mut Table) {
     for (name, power, own) in POWERS {
-        let mut row = Row::new(name, "any 64 bits", "Rust's powi", Bound::Equal);
+        let mut row = Row::new(name, "any 64 bits", "Rust's powi", EQUAL);
         let mut r = Random::stream(61);
         for _ in 0..5_000_000 {
             let x = r.any();

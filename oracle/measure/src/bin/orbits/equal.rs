@@ -3,6 +3,7 @@ use crate::table::{Parts, Row, Table};
 use measure::orbits::{question, whole, Choice, Orbit, Published, ECCENTRICITIES, MOTIONS};
 use measure::random::Random;
 use measure::rust::{Ours, Rust};
+use measure::tally::EQUAL;
 use measure::{beside, same};
 use orbt::orbits::{ask, build, class, fresh, geometry, sidereal_time, step, Constants, State};
 
@@ -22,7 +23,7 @@ struct Rows {
 
 impl Rows {
     fn new(inputs: &'static str) -> Rows {
-        let row = |what| Row::new(what, inputs, 0.0);
+        let row = |what| Row::new(what, inputs, EQUAL);
         Rows {
             class: row("class"),
             geometry: row("geometry"),
@@ -145,7 +146,7 @@ impl Rows {
 
 fn classes(table: &mut Table) {
     let mut row =
-        Row::new("class", "limits and a float to each side, each with each; NaNs and infinities", 0.0);
+        Row::new("class", "limits and a float to each side, each with each; NaNs and infinities", EQUAL);
     let mut r = Random::stream(401);
     let about = |limits: &[f64]| -> Vec<f64> {
         limits.iter().flat_map(|&x| [-1, 0, 1].map(|k| beside(x, k))).collect()
@@ -165,7 +166,7 @@ fn classes(table: &mut Table) {
 }
 
 fn sidereal_times(table: &mut Table) {
-    let mut row = Row::new("sidereal time, both", "epochs within 200 years, and of any size", 0.0);
+    let mut row = Row::new("sidereal time, both", "epochs within 200 years, and of any size", EQUAL);
     let mut r = Random::stream(402);
     for k in 0..400_000 {
         let epoch = if k % 2 == 0 { r.within(200.0) } else { r.scaled(-40, 300) };
@@ -182,7 +183,7 @@ fn sidereal_times(table: &mut Table) {
 }
 
 fn geometries(table: &mut Table) {
-    let mut row = Row::new("geometry", "nodes to 1,048,576, epochs to 1.47 million years", 0.0);
+    let mut row = Row::new("geometry", "nodes to 1,048,576, epochs to 1.47 million years", EQUAL);
     let mut r = Random::stream(403);
     for _ in 0..100_000 {
         let (node, epoch) = (r.scaled(-10, 20), r.scaled(-10, 20));

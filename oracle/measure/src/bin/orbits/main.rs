@@ -6,12 +6,13 @@ mod near;
 mod table;
 
 use measure::orbits::published;
+use measure::tally::verdict;
 use std::process::ExitCode;
 
 fn main() -> ExitCode {
     // the published sets, where the file is
     let sets = match std::env::args().nth(1) {
-        Some(path) => published(&std::fs::read_to_string(path).expect("no such file of element sets")),
+        Some(path) => published(&path),
         None => {
             eprintln!("no published sets: python3-sgp4 is not installed, and ORBT_SETS names none");
             vec![]
@@ -20,9 +21,5 @@ fn main() -> ExitCode {
     let mut table = table::Table::default();
     equal::compare(&mut table, &sets);
     near::compare(&mut table, &sets);
-    if table.print() {
-        ExitCode::SUCCESS
-    } else {
-        ExitCode::FAILURE
-    }
+    verdict(table.print())
 }

@@ -4,6 +4,7 @@ use crate::table::{Row, Table};
 use measure::orbits::{question, whole, Orbit, Published, ECCENTRICITIES, MOTIONS};
 use measure::random::Random;
 use measure::rust::{Own, Rust};
+use measure::tally::NOTE;
 use orbt::orbits::{ask, build, fresh, geometry};
 use std::f64::consts::{PI, TAU};
 
@@ -42,8 +43,8 @@ struct Rows {
 impl Rows {
     fn new(inputs: &'static str) -> Rows {
         Rows {
-            geometry: Row::new("Rust's own floats: geometry", inputs, f64::INFINITY),
-            constants: Row::new("Rust's own floats: constants", inputs, f64::INFINITY),
+            geometry: Row::new("Rust's own floats: geometry", inputs, NOTE),
+            constants: Row::new("Rust's own floats: constants", inputs, NOTE),
             lambda: Row::new(
                 "Rust's own floats: lambda_0 and sidereal_time_0, by turns",
                 inputs,
@@ -51,7 +52,7 @@ impl Rows {
             ),
             elements: NAMES.iter().map(|name| Row::new(name, inputs, BOUND)).collect(),
             refusals: Row::new("Rust's own floats: refusals 10 and 11, their two numbers", inputs, BOUND),
-            listed_builds: Row::new("listed: n or e within 1e-9 of a threshold", inputs, f64::INFINITY),
+            listed_builds: Row::new("listed: n or e within 1e-9 of a threshold", inputs, NOTE),
             listed_asks: Row::new(
                 "listed: I, Ω or an eccentricity within 1e-9 of a threshold",
                 inputs,
@@ -90,9 +91,10 @@ impl Rows {
         self.lambda.call();
         for (place, (a, b)) in ours.numbers.iter().zip(&numbers).enumerate() {
             if kind != 0 && (place == 20 || place == 22) {
-                self.lambda.one(a.to_bits() == b.to_bits(), turned(a - b), at);
+                self.lambda.tally.one(a.to_bits() == b.to_bits(), turned(a - b), at);
             } else {
                 self.constants
+                    .tally
                     .one(a.to_bits() == b.to_bits(), (a - b).abs(), || format!("{}, place {place}", at()));
             }
         }
@@ -114,7 +116,7 @@ impl Rows {
                         let (a, b) = (a.elements[place], elements[place]);
                         let apart = if [1, 3, 4].contains(&place) { turned(a - b) } else { (a - b).abs() };
                         row.call();
-                        row.one(a.to_bits() == b.to_bits(), apart, at);
+                        row.tally.one(a.to_bits() == b.to_bits(), apart, at);
                     }
                 }
                 (ours, Err((number, two))) if ours == number => {

@@ -1,23 +1,17 @@
 //! The table: a row to what was compared, over what inputs, and whether it kept its bound.
 use measure::random::SEED;
-use measure::same;
+use measure::tally::{decimal, Tally, EQUAL, NOTE};
 
 pub struct Row {
     what: &'static str,
     inputs: &'static str,
-    bound: f64,
     calls: u64,
-    count: u64,
-    differed: u64,
-    wrong: u64,
-    worst: f64,
-    at: String,
+    pub tally: Tally,
 }
 
 impl Row {
-    /// The largest difference that is no fault: 0 where bits must be equal, infinite where it is a note.
     pub fn new(what: &'static str, inputs: &'static str, bound: f64) -> Row {
-        Row { what, inputs, bound, calls: 0, count: 0, differed: 0, wrong: 0, worst: 0.0, at: String::new() }
+        Row { what, inputs, calls: 0, tally: Tally::new(bound) }
     }
 
     pub fn call(&mut self) {
@@ -26,30 +20,11 @@ impl Row {
 
     /// Numbers of ours beside the Rust's.
     pub fn take(&mut self, ours: &[f64], rust: &[f64], at: impl Fn() -> String) {
-        for (place, (a, b)) in ours.iter().zip(rust).enumerate() {
-            self.one(same(*a, *b), (a - b).abs(), || format!("{}, place {place}", at()));
-        }
-        if ours.len() != rust.len() {
-            self.one(false, f64::INFINITY, at);
-        }
+        self.tally.take(ours, rust, at);
     }
 
     pub fn holds(&mut self, is_so: bool, at: impl Fn() -> String) {
-        self.one(is_so, f64::INFINITY, at);
-    }
-
-    pub fn one(&mut self, is_same: bool, difference: f64, at: impl Fn() -> String) {
-        self.count += 1;
-        if is_same {
-            return;
-        }
-        self.differed += 1;
-        let difference = if difference.is_nan() { f64::INFINITY } else { difference };
-        self.wrong += (self.bound == 0.0 || difference > self.bound) as u64;
-        if difference > self.worst || self.at.is_empty() {
-            self.worst = difference;
-            self.at = at();
-        }
+        self.tally.holds(is_so, at);
     }
 }
 
@@ -101,27 +76,29 @@ impl Table {
         println!("|---|---|---|---|---|---|---|---|");
         let (mut count, mut wrong) = (0, 0);
         for row in &self.rows {
-            let bound = match row.bound {
-                0.0 => "equal bits".to_string(),
-                b if b.is_infinite() => "a note".to_string(),
+            let tally = &row.tally;
+            let bound = match tally.bound {
+                EQUAL => "equal bits".to_string(),
+                NOTE => "a note".to_string(),
                 b => format!("{b:e}"),
             };
-            let worst = match row.worst {
-                0.0 => "-".to_string(),
-                w if w.is_infinite() => "wrong".to_string(),
-                w => format!("{w:.1e}"),
-            };
-            if row.calls > 0 || row.count > 0 {
+            if row.calls > 0 || tally.count > 0 {
                 println!(
-                    "| {} | {} | {} | {} | {} | {bound} | {worst} | {} |",
-                    row.what, row.inputs, row.calls, row.count, row.differed, row.wrong
+                    "| {} | {} | {} | {} | {} | {bound} | {} | {} |",
+                    row.what,
+                    row.inputs,
+                    row.calls,
+                    tally.count,
+                    tally.differed,
+                    tally.worst(decimal),
+                    tally.wrong
                 );
             }
-            count += row.count;
-            wrong += row.wrong;
+            count += tally.count;
+            wrong += tally.wrong;
         }
-        for row in self.rows.iter().filter(|row| row.wrong > 0) {
-            println!("\n{}, {}: {}", row.what, row.inputs, row.at);
+        for row in self.rows.iter().filter(|row| row.tally.wrong > 0) {
+            println!("\n{}, {}: {}", row.what, row.inputs, row.tally.at);
         }
         self.parts.print();
         println!("\n{count} numbers, seed {SEED:016X}, {wrong} outside their bounds");
