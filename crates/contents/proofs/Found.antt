@@ -7,12 +7,13 @@ use Prim.Native.Nat.{ℕ, suc, _+_, _≤_}
 use native.Mathlib.Omega.{arith}
 use lib.Dec.{eqb}
 use lib.ListN.{length, take, drop}
-use Rattle.contents.specs.Format.{chained, count, contentsEnd, entriesOf, contentsRight}
+use Rattle.contents.specs.Format.{most, chained, count, contentsEnd, entriesOf, contentsRight}
 use Rattle.contents.specs.Records.{recordOf, bodyAmong}
-use Rattle.contents.specs.Find.{sought, foundIn, bytesAt, FindsBodies, FoundAt, FoundInside}
+use Rattle.contents.specs.Find.{sought, foundIn, bytesAt, countedIn, FindsBodies, FoundAt, FoundInside}
 use Rattle.contents.specs.declared.format.Entry.{Entry}
 use Rattle.contents.specs.declared.find.Found.{Found}
 use Rattle.contents.specs.declared.find.Found.the-variants.{FileWrong, SatelliteMissing, Body}
+use Rattle.contents.specs.declared.find.Counted.the-variants as C
 use Rattle.contents.proofs.format.Laws.{right}
 use Rattle.contents.proofs.save.Split.{tests, chain}
 
@@ -86,3 +87,18 @@ found-inside s x o n h = go (contentsRight s) refl
           body = sym (finds-bodies s x k .body) ∙ ap (bytesAt s) h;
         }
     go false k = let w = in-wrong s x k in let z : _≡_ {A = ℕ} 0 1 = cc in absurd (omega arith)
+
+-- a count that was answered is small
+pub counted-most : (s : List ℕ) (n : ℕ) → countedIn s ≡ C.Records n → n ≤ most
+counted-most s n h = go (contentsRight s) refl
+  where
+    go : (t : Bool) → contentsRight s ≡ t → n ≤ most
+    go true e =
+        let k : countedIn s ≡ C.Records (count s) = unfold countedIn in simp e in
+        let m : count s ≡ n = cc in
+        let f = right s e .few in
+        omega arith
+    go false e =
+        let k : countedIn s ≡ C.FileWrong = unfold countedIn in simp e in
+        let z : _≡_ {A = ℕ} 0 1 = cc in
+        absurd (omega arith)

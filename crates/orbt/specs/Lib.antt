@@ -1,2 +1,3 @@
 pub mod Written
 pub mod Orbits
+pub mod Store

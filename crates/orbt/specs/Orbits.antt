@@ -6,8 +6,6 @@ use mathlib.Core.Bool.{Bool, true, false, cond, _||_}
 use mathlib.Core.List.{List, [], _∷_}
 use lib.Dec.{eqb, ltb}
 use lib.Ieee.{Float}
-use Rattle.orbit.specs.declared.class.Class.{Class}
-use Rattle.orbit.specs.declared.class.Class.the-variants.{NonResonant, OneDay, HalfDay}
 use Rattle.orbit.specs.declared.model.Geopotential.{Geopotential}
 use Rattle.orbit.specs.declared.model.SiderealTime.{SiderealTime}
 use Rattle.orbit.specs.declared.model.SiderealTime.the-variants.{Iau, Afspc}
@@ -41,12 +39,7 @@ use Rattle.resonance.specs.declared.ask.Asked.{Asked}
 use Rattle.resonance.specs.declared.ask.Answer.{Answer}
 use Rattle.resonance.specs.declared.ask.Answer.the-variants.{Refused, Reached}
 
--- ---- class and sidereal time
-
-abbrev pub classNumber : Class → ℕ
-classNumber NonResonant = 0
-classNumber OneDay = 1
-classNumber HalfDay = 2
+-- ---- sidereal time
 
 -- 0 is the IAU expression, any other number the AFSPC one
 abbrev pub whichOf : ℕ → SiderealTime

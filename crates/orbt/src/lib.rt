@@ -2,3 +2,4 @@
 // pointer, which a refused call leaves as it was.
 pub mod float_calls;
 pub mod orbit_calls;
+pub mod store_calls;

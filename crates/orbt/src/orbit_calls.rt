@@ -9,8 +9,8 @@ ghost use Rattle.constants.specs.Build.{number as buildNumber};
 ghost use Rattle.resonance.specs.State.{fresh};
 ghost use Rattle.elements.specs.Elements.{number as outcomeNumber};
 ghost use Rattle.resonance.specs.Refusal.{number as faultNumber};
-ghost use Rattle.orbt.specs.Orbits.{classNumber, whichOf as whichNamed, siderealOr, bodiesOr, builtFrom, kindOr, constantsOr, BuildLeaves, stateOf as stateIn, stateOr, heldNumber, maybeOf, questionOf as questionIn, elementsList, carriedOver, outcomeOr, elementsOr, answerNumber, isWrong as isWrongOf, AskLeaves, steppedNumber, steppedState, StepLeaves};
-ghost use Rattle.record.specs.Record.{constantsOf};
+ghost use Rattle.orbt.specs.Orbits.{whichOf as whichNamed, siderealOr, bodiesOr, builtFrom, kindOr, constantsOr, BuildLeaves, stateOf as stateIn, stateOr, heldNumber, maybeOf, questionOf as questionIn, elementsList, carriedOver, outcomeOr, elementsOr, answerNumber, isWrong as isWrongOf, AskLeaves, steppedNumber, steppedState, StepLeaves};
+ghost use Rattle.record.specs.Record.{classKind, constantsOf};
 use constants::build::Built;
 use constants::build::build;
 use constants::geometry::Geometry;
@@ -21,7 +21,6 @@ use elements::elements::Elements;
 use elements::elements::Outcome;
 use elements::elements::Periodic;
 use elements::elements::Question;
-use orbit::class::Class;
 use orbit::class::class_of;
 use orbit::model::Geopotential;
 use orbit::model::Sidereal;
@@ -30,6 +29,7 @@ use orbit::model::sidereal_time;
 use orbit::propagator::Orbit;
 use record::constants_of;
 use record::kind_of;
+use record::kind_of_class;
 use record::numbers_of;
 use resonance::ask::Answer;
 use resonance::state::MaybeState;
@@ -43,13 +43,9 @@ use resonance::time::Fault;
 // 0 non-resonant, 1 one-day, 2 half-day, of mean motion n in rad.min⁻¹ and eccentricity e.
 #[no_mangle]
 pub extern "C" fn orbt_class(n: f64, e: f64) -> u32
-    ensures { λ r. ⌜ r ≡ classNumber (classOf n e) ⌝ }
+    ensures { λ r. ⌜ r ≡ classKind (classOf n e) ⌝ }
 {
-    match class_of(n, e) {
-        Class::NonResonant => 0,
-        Class::OneDay => 1,
-        Class::HalfDay => 2,
-    }
+    kind_of_class(class_of(n, e))
 }
 
 // 0 names the IAU expression, any other number the AFSPC one.
@@ -266,7 +262,7 @@ fn state_of(x: [f64; 3]) -> ResonanceState
     }
 }
 
-fn state_or(old: [f64; 3], s: MaybeState) -> [f64; 3]
+pub(crate) fn state_or(old: [f64; 3], s: MaybeState) -> [f64; 3]
     ensures { λ r. ⌜ r ≡ stateOr old s ⌝ }
 {
     match s {
@@ -276,7 +272,7 @@ fn state_or(old: [f64; 3], s: MaybeState) -> [f64; 3]
 }
 
 // 1 where there is a state.
-fn is_held(s: MaybeState) -> u32
+pub(crate) fn is_held(s: MaybeState) -> u32
     ensures { λ r. ⌜ r ≡ heldNumber s ⌝ }
 {
     match s {
@@ -430,7 +426,7 @@ fn question_of(x: &[f64; 13]) -> Question
     }
 }
 
-fn maybe_state(held: u32, x: [f64; 3]) -> MaybeState
+pub(crate) fn maybe_state(held: u32, x: [f64; 3]) -> MaybeState
     ensures { λ r. ⌜ r ≡ maybeOf held x ⌝ }
 {
     if held == 1 {
@@ -440,7 +436,7 @@ fn maybe_state(held: u32, x: [f64; 3]) -> MaybeState
 }
 
 // Whether a kind is above 2, or a flag above 1.
-fn is_wrong(kind: u32, flag: u32, held: u32) -> bool
+pub(crate) fn is_wrong(kind: u32, flag: u32, held: u32) -> bool
     ensures { λ r. ⌜ r ≡ isWrongOf kind flag held ⌝ }
 {
     (kind > 2) | (flag > 1) | (held > 1)

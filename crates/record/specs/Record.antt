@@ -12,6 +12,8 @@ use lib.Dec.{eqb}
 use lib.IntN.{pos}
 use lib.ListN.{getD}
 use lib.Ieee.{Float, nan, fin}
+use Rattle.orbit.specs.declared.class.Class.{Class}
+use Rattle.orbit.specs.declared.class.Class.the-variants.{NonResonant, OneDay as oneDay, HalfDay as halfDay}
 use Rattle.orbit.specs.declared.model.Geopotential.{Geopotential}
 use Rattle.orbit.specs.declared.propagator.Orbit.{Orbit}
 use Rattle.orbit.specs.declared.propagator.Resonance.{Resonance}
@@ -25,6 +27,12 @@ abbrev pub kindOf : Resonant → ℕ
 kindOf (No a0) = 0
 kindOf (Yes lambda-0 lambda-dot-0 theta-0 (OneDay dr1 dr2 dr3)) = 1
 kindOf (Yes lambda-0 lambda-dot-0 theta-0 (HalfDay d2201 d2211 d3210 d3222 d4410 d4422 d5220 d5232 d5421 d5433 k14)) = 2
+
+-- the kind that a class has
+abbrev pub classKind : Class → ℕ
+classKind NonResonant = 0
+classKind oneDay = 1
+classKind halfDay = 2
 
 -- +0.0, which stands where a kind has no number
 abbrev pub none : Float

@@ -1,7 +1,8 @@
 // The numbers of an orbit's constants in the order of a store's body, there and back: what the store
 // and the C interface share.
 ghost use mathlib.Core.Path.{_≡_};
-ghost use Rattle.record.specs.Record.{kindOf, tailOf, numbersOf, resonantOf, constantsOf};
+ghost use Rattle.record.specs.Record.{kindOf, classKind, tailOf, numbersOf, resonantOf, constantsOf};
+use orbit::class::Class;
 use orbit::model::Geopotential;
 use orbit::propagator::Constants;
 use orbit::propagator::Orbit;
@@ -40,6 +41,17 @@ pub fn kind_of(c: Constants) -> u32
                 k14: _,
             } => 2,
         },
+    }
+}
+
+// The kind that constants of a class carry.
+pub fn kind_of_class(class: Class) -> u32
+    ensures { λ r. ⌜ r ≡ classKind class ⌝ }
+{
+    match class {
+        Class::NonResonant => 0,
+        Class::OneDay => 1,
+        Class::HalfDay => 2,
     }
 }
 

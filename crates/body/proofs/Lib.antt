@@ -1,0 +1,5 @@
+pub mod Floats
+pub mod Sizes
+pub mod Made
+pub mod Back
+pub mod Passes

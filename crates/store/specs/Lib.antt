@@ -1,0 +1,4 @@
+pub mod Restore
+pub mod Save
+pub mod Kept
+pub mod Examples
