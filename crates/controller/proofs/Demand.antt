@@ -1,12 +1,12 @@
 -- Demand 3 by induction over the events: an ask that is not refused 1 to 8 ends at the node that the fresh state reaches (Restart), one that is leaves the state,
--- and a restore that passes 18 brings the state that its own steps give, since states held by a machine are equal where their bits are. Assumes nothing.
+-- and an accepted restore brings the state that its own steps give, since floats read from bytes are equal where their bits are. Assumes nothing.
 use mathlib.Core.Path.{_≡_, refl, sym, ap, _∙_, subst}
 use Prim.Native.Nat.{ℕ, zero, suc, _≤_, _^_}
-use mathlib.Core.Bool.{Bool, true, false, not, _&&_, false≢true}
+use mathlib.Core.Bool.{Bool, true, false, not, cond, _&&_, false≢true}
 use mathlib.Core.List.{List, [], _∷_}
 use lib.Dec.{T, eqb, eqb→eq, lit≤}
 use lib.Ieee.{Float, binary64, fits, toBits, ofBits}
-use lib.Ieee.Bits.{ofBits-toBits}
+use lib.Ieee.Bits.{ofBits-toBits, ofBits-fits}
 use lib.Ieee.Fits.{add-fits, and-l, and-r}
 use lib.Ieee.Scale.{finite}
 use Rattle.floats.specs.Value.{sameBits, atMost, negative, isZero}
@@ -31,13 +31,34 @@ use Rattle.resonance.specs.Time.{limit, number, back, zeroTime, placed, multipl
 use Rattle.resonance.specs.State.{freshOf, freshBy, fresh, finiteState, sameState, stepOf, integrator}
 use Rattle.resonance.specs.Advance.{steps, agrees, replayOf}
 use Rattle.resonance.specs.Ask.{numbersRefusal, givenBack, advancedBy, resonantAsk, kindAsk, checkedAsk, plainAsk, checkedNone, stateAskOf, noneAskOf, held, askOf}
-use Rattle.controller.specs.Demand.{Held, HeldMaybe, Event, asks, saves, resets, restores, Session, afterAsk, timeAfter, passes18By, afterRestore, storedTime, happen, run, start, GoodBy, Good, Demand3}
+use Rattle.record.specs.Record.{constantsOf, resonantOf, oneDayOf, halfDayOf}
+use Rattle.body.specs.Floats.{floatAt, floats}
+use Rattle.body.specs.Body.{stateStart}
+use Rattle.body.specs.Examine.{replayed as replayedOf}
+use Rattle.body.specs.Read.{kindIn, constantsIn, stateAt, heldAt}
+use Rattle.body.proofs.Passes.{read-passes}
+use Rattle.store.proofs.Kept.{restored-read}
+use Rattle.store.specs.declared.restore.Restored.{Restored}
+use Rattle.store.specs.declared.restore.Restored.the-variants as R
+use Rattle.store.specs.Restore.{restoredFrom}
+use Rattle.controller.specs.Running.{restoredBy}
+use Rattle.controller.specs.Demand.{Event, asks, saves, resets, restores, Session, timeAfter, afterRestore, storedTime, happen, run, start, GoodBy, Good, Demand3}
 use Rattle.resonance.proofs.Accepted.{accepted-most, number-most}
 use Rattle.resonance.proofs.Steps.{no-state, Moved, step-is, steps-keep}
 use Rattle.resonance.proofs.Walk.{advance-refused}
 use Rattle.controller.proofs.Restart.{OnNode, resonant}
 
 -- ---- states that a machine holds are equal where their bits are
+
+-- a state that a machine holds: its three numbers are floats of the format
+pub record Held (z : ResonanceState) : Type 0 where
+  pub time : T (fits binary64 (z .t))
+  pub motion : T (fits binary64 (z .«mean_motion»))
+  pub longitude : T (fits binary64 (z .lambda))
+
+abbrev pub HeldMaybe : MaybeState → Type 0
+HeldMaybe None = Unit {0}
+HeldMaybe (Some z) = Held z
 
 bits-same : (x y : Float) → T (fits binary64 x) → T (fits binary64 y) → T (sameBits x y) → x ≡ y
 bits-same x y F G t = sym (ofBits-toBits binary64 x F) ∙ ap (ofBits binary64) (eqb→eq (toBits binary64 x) (toBits binary64 y) t) ∙ ofBits-toBits binary64 y G
@@ -122,6 +143,47 @@ module _ (c : Constants) (lambda-0 lambda-dot-0 theta-0 : Float) (r : Resonance)
       go None e t = absurd t
       go (Some x) e t = e ∙ ap Some (states-same x z (steps-keep i (back (z .t)) Held (step-held i (back (z .t))) (number (z .t)) f x hf e) hz t)
 
+-- ---- what a restore brings
+
+floats-fit : (at : ℕ) (b : List ℕ) → T (fits binary64 (floatAt at b))
+unfolding floatAt
+floats-fit at b = ofBits-fits binary64 _
+
+state-held : (kind : ℕ) (b : List ℕ) → HeldMaybe (heldAt kind b)
+state-held kind b = go (eqb kind 0)
+  where
+    go : (t : Bool) → HeldMaybe (cond t None (Some (stateAt (stateStart kind) b)))
+    go true = tt
+    go false = record { time = floats-fit _ b; motion = floats-fit _ b; longitude = floats-fit _ b }
+
+fresh-held : (b : List ℕ) → HeldMaybe (fresh (constantsIn b))
+unfolding constantsOf resonantOf floats fits
+fresh-held b = go (eqb (kindIn b) 1) (eqb (kindIn b) 2)
+  where
+    go : (p q : Bool)
+        → HeldMaybe (freshBy (floatAt 88 b) (cond p (Yes (floatAt 168 b) (floatAt 176 b) (floatAt 184 b) (oneDayOf (floats 34 8 b))) (cond q (Yes (floatAt 168 b) (floatAt 176 b) (floatAt 184 b) (halfDayOf (floats 34 8 b))) (No (floatAt 168 b)))))
+    go true q = record { time = tt; motion = floats-fit 88 b; longitude = floats-fit 168 b }
+    go false true = record { time = tt; motion = floats-fit 88 b; longitude = floats-fit 168 b }
+    go false false = tt
+
+pub record Brought (c : Constants) (z : MaybeState) (k : ℕ) : Type 0 where
+  pub fresh : HeldMaybe (fresh c)
+  pub state : HeldMaybe z
+  pub same : replayedOf c (c .resonant) z .same ≡ true
+  pub steps : k ≡ replayedOf c (c .resonant) z .steps
+
+pub restored-held : (s : List ℕ) (x : ℕ) (c : Constants) (z : MaybeState) (k : ℕ) → restoredFrom s x ≡ R.Of c z k → Brought c z k
+restored-held s x c z k h =
+    let r = restored-read s x c z k h in
+    let b = r .0 in
+    let p = read-passes b c z k (r .1) in
+    record {
+      fresh = subst (λ (d : Constants). HeldMaybe (fresh d)) (sym (p .constants)) (fresh-held b);
+      state = subst HeldMaybe (sym (p .state)) (state-held (kindIn b) b);
+      same = p .same;
+      steps = p .steps;
+    }
+
 -- ---- each event, and the list
 
 none-ask : (c : Constants) (a0 : Float) (q : Question) → c .resonant ≡ No a0 → noneAskOf c q .state ≡ None
@@ -134,11 +196,12 @@ none-ask c a0 q kind = go (numbersRefusal c q true)
 
 module _ (w : Session) where
   abbrev k : Constants
-  k = w .constants
+  k = w .controller .constants
 
-  after-ask : (r : Resonant) → k .resonant ≡ r → GoodBy k r (w .state) (w .time) → (q : Question) → GoodBy k r (happen w (asks q) .state) (happen w (asks q) .time)
+  after-ask : (r : Resonant) → k .resonant ≡ r → GoodBy k r (w .controller .state) (w .time) → (q : Question)
+      → GoodBy k r (happen w (asks q) .controller .state) (happen w (asks q) .time)
   after-ask (No a0) kind good q = ap (λ (s : MaybeState). askOf k s q .state) good ∙ none-ask k a0 q kind
-  after-ask (Yes lambda-0 lambda-dot-0 theta-0 r) kind good q = go (w .state) good
+  after-ask (Yes lambda-0 lambda-dot-0 theta-0 r) kind good q = go (w .controller .state) good
     where
       go : (s : MaybeState) → GoodBy k (Yes lambda-0 lambda-dot-0 theta-0 r) s (w .time) → GoodBy k (Yes lambda-0 lambda-dot-0 theta-0 r) (askOf k s q .state) (timeAfter (w .time) (q .t) (askOf k s q .answer))
       go None g = absurd (g .2 refl)
@@ -149,22 +212,33 @@ fresh-at c (No a0) kind = ap (freshBy (c .«orbit_0» .«mean_motion»)) kind
 fresh-at c (Yes lambda-0 lambda-dot-0 theta-0 r) kind =
     subst (λ (s : MaybeState). GoodBy c (Yes lambda-0 lambda-dot-0 theta-0 r) s zeroTime) (sym (ap (freshBy (c .«orbit_0» .«mean_motion»)) kind)) (fresh-good c lambda-0 lambda-dot-0 theta-0 r kind)
 
-after-restore : (w : Session) → Good w → (c : Constants) (s : MaybeState) → HeldMaybe (fresh c) → HeldMaybe s → (r : Resonant) → c .resonant ≡ r → (b : Bool) → passes18By c r s ≡ b → Good (afterRestore w c s b)
-after-restore w good c s hf hs r kind false p = good
-after-restore w good c s hf hs r kind true p = subst (λ (x : Resonant). GoodBy c x s (storedTime s)) (sym kind) (go r kind s hs p)
+-- a record that passes its replay
+after-replay : (c : Constants) (s : MaybeState) → HeldMaybe (fresh c) → HeldMaybe s → replayedOf c (c .resonant) s .same ≡ true → GoodBy c (c .resonant) s (storedTime s)
+after-replay c s hf hs p = go (c .resonant) refl s hs p
   where
-    go : (r : Resonant) → c .resonant ≡ r → (s : MaybeState) → HeldMaybe s → passes18By c r s ≡ true → GoodBy c r s (storedTime s)
+    go : (r : Resonant) → c .resonant ≡ r → (s : MaybeState) → HeldMaybe s → replayedOf c r s .same ≡ true → GoodBy c r s (storedTime s)
     go (No a0) kind None h p = refl
     go (No a0) kind (Some z) h p = absurd (false≢true p)
     go (Yes lambda-0 lambda-dot-0 theta-0 r) kind None h p = absurd (false≢true p)
     go (Yes lambda-0 lambda-dot-0 theta-0 r) kind (Some z) h p =
         replayed c lambda-0 lambda-dot-0 theta-0 r kind z (subst HeldMaybe (ap (freshBy (c .«orbit_0» .«mean_motion»)) kind) hf) h p
 
-happens : (w : Session) (e : Event) → Good w → Good (happen w e)
-happens w (asks q) good = after-ask w (w .constants .resonant) refl good q
-happens w saves good = good
-happens w resets good = fresh-at (w .constants) (w .constants .resonant) refl
-happens w (restores c s hf hs) good = after-restore w good c s hf hs (c .resonant) refl (passes18By c (c .resonant) s) refl
+after-restore : (w : Session) → Good w → (s : List ℕ) (x : ℕ) → Good (happen w (restores s x))
+after-restore w good s x = go (restoredFrom s x) refl
+  where
+    go : (a : Restored) → restoredFrom s x ≡ a → Good (afterRestore w (restoredBy (w .controller) a))
+    go R.FileWrong e = good
+    go R.SatelliteMissing e = good
+    go R.BodyWrong e = good
+    go R.NumberNotFinite e = good
+    go (R.StateWrong k) e = good
+    go (R.Of c z k) e = let h = restored-held s x c z k e in after-replay c z (h .fresh) (h .state) (h .same)
+
+pub happens : (w : Session) (e : Event) → Good w → Good (happen w e)
+happens w (asks q) good = after-ask w (w .controller .constants .resonant) refl good q
+happens w (saves s x room) good = good
+happens w resets good = fresh-at (w .controller .constants) (w .controller .constants .resonant) refl
+happens w (restores s x) good = after-restore w good s x
 
 runs : (w : Session) (es : List Event) → Good w → Good (run w es)
 runs w [] good = good

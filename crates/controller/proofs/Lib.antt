@@ -1,2 +1,4 @@
 pub mod Restart
 pub mod Demand
+pub mod Operator
+pub mod Budget

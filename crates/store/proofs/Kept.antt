@@ -5,6 +5,7 @@ use mathlib.Core.List.{List}
 use mathlib.Core.Option.{Option, none, some}
 use Prim.Native.Nat.{ℕ}
 use native.Mathlib.Omega.{arith}
+use lib.ListN.{take, drop}
 use Rattle.orbit.specs.declared.propagator.Resonant.{Resonant}
 use Rattle.orbit.specs.declared.propagator.Resonant.the-variants.{No, Yes}
 use Rattle.orbit.specs.declared.propagator.Constants.{Constants}
@@ -54,6 +55,25 @@ restored-body s x h = unfold restoredFrom in go (foundIn s x) refl
         absurd (omega arith)
     go F.SatelliteMissing e = refl
     go (F.Body o n) e = refl
+
+-- what was restored was read from a body
+pub restored-read : (s : List ℕ) (x : ℕ) (c : Constants) (z : MaybeState) (k : ℕ) → restoredFrom s x ≡ Of c z k → (b : List ℕ) × (bodyRead b ≡ B.Of c z k)
+restored-read s x c z k h = unfold restoredFrom in at (foundIn s x) h
+  where
+    read : (b : List ℕ) (a : Body) → bodyRead b ≡ a → ofBody a ≡ Of c z k → (b : List ℕ) × (bodyRead b ≡ B.Of c z k)
+    read b B.Wrong e g = let w : _≡_ {A = ℕ} 0 1 = cc in absurd (omega arith)
+    read b B.NumberNotFinite e g = let w : _≡_ {A = ℕ} 0 1 = cc in absurd (omega arith)
+    read b (B.StateWrong m) e g = let w : _≡_ {A = ℕ} 0 1 = cc in absurd (omega arith)
+    read b (B.Of c' z' m) e g =
+        let e₁ : c' ≡ c = cc in
+        let e₂ : z' ≡ z = cc in
+        let e₃ : m ≡ k = cc in
+        (b, e ∙ ap (λ (d : Constants). B.Of d z' m) e₁ ∙ ap (λ (y : MaybeState). B.Of c y m) e₂ ∙ ap (B.Of c z) e₃)
+
+    at : (f : Found) → restoredAt s f ≡ Of c z k → (b : List ℕ) × (bodyRead b ≡ B.Of c z k)
+    at F.FileWrong g = let w : _≡_ {A = ℕ} 0 1 = cc in absurd (omega arith)
+    at F.SatelliteMissing g = let w : _≡_ {A = ℕ} 0 1 = cc in absurd (omega arith)
+    at (F.Body o n) g = read (take n (drop o s)) (bodyRead (take n (drop o s))) refl g
 
 -- ---- what an accepted save has tested
 
