@@ -7,6 +7,7 @@ pub mod orbits;
 pub mod random;
 pub mod recipe;
 pub mod rust;
+pub mod store;
 pub mod tally;
 
 use std::f64::consts::TAU;
