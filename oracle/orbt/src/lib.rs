@@ -1,8 +1,9 @@
-//! The C interface of the proved library (include/orbt.h), as Rust calls: the float functions, and in
-//! `orbits` the calls on orbits.
+//! The C interface of the proved library (include/orbt.h), as Rust calls: the float functions, in
+//! `orbits` the calls on orbits, and in `store` those on store files.
 #![no_std]
 
 pub mod orbits;
+pub mod store;
 
 /// The functions as the static library has them.
 pub mod c {
@@ -38,6 +39,32 @@ pub mod c {
             question: *const [f64; 13],
             elements: *mut [f64; 12],
             steps: *mut u32,
+        ) -> u32;
+        pub fn orbt_contents(file: *const u8, file_size: usize, count: *mut u32) -> u32;
+        pub fn orbt_satellite(file: *const u8, file_size: usize, place: u32, satellite: *mut u32) -> u32;
+        pub fn orbt_restore(
+            file: *const u8,
+            file_size: usize,
+            satellite: u32,
+            kind: *mut u32,
+            flag: *mut u32,
+            constants: *mut [f64; 34],
+            held: *mut u32,
+            state: *mut [f64; 3],
+            steps: *mut u32,
+        ) -> u32;
+        pub fn orbt_save(
+            file: *const u8,
+            file_size: usize,
+            out: *mut u8,
+            out_size: usize,
+            satellite: u32,
+            kind: u32,
+            flag: u32,
+            constants: *const [f64; 34],
+            held: u32,
+            state: *const [f64; 3],
+            size: *mut usize,
         ) -> u32;
     }
 }

@@ -23,7 +23,7 @@ pub struct Asked {
     pub steps: u32,
 }
 
-fn is_left(xs: &[f64]) -> bool {
+pub(crate) fn is_left(xs: &[f64]) -> bool {
     xs.iter().all(|x| x.to_bits() == KEPT.to_bits())
 }
 

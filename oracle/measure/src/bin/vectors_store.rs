@@ -241,7 +241,7 @@ fn empty(v: &mut Vectors) {
     v.save(7, ROOM);
 }
 
-// where the numbers of a body are, and the body of a satellite in a file
+// where a number is, of the body that starts at `from`
 fn number_at(from: usize, place: usize) -> usize {
     from + 8 + 8 * place
 }
@@ -526,7 +526,7 @@ fn states(v: &mut Vectors) {
             }
             // the last state that there is, and its bits off by one
             for t in [720.0, -720.0] {
-                let t = (1..).map(|k| t * k as f64).take_while(|&t| k_is_finite(&c, t)).take(40).last();
+                let t = (1..).map(|k| t * k as f64).take_while(|&t| is_defined(&c, t)).take(40).last();
                 let Some(t) = t else { continue };
                 let end = carried(&c, t).unwrap();
                 v.file(&file(&[(5, body(&c, Some(end)))]));
@@ -569,7 +569,7 @@ fn states(v: &mut Vectors) {
 }
 
 // whether the steps as far as t are defined
-fn k_is_finite(c: &Constants, t: f64) -> bool {
+fn is_defined(c: &Constants, t: f64) -> bool {
     carried(c, t).iter().flatten().all(|x| x.is_finite())
 }
 
@@ -618,7 +618,6 @@ fn not_finite(v: &mut Vectors) {
     }
 }
 
-// files of three records, the named one first, in the middle or last
 fn saves(v: &mut Vectors) {
     let all = kinds();
     let mut r = Random::stream(631);
