@@ -17,11 +17,18 @@
  * 11 the perturbed eccentricity is outside 0 to 1: it and the time are carried
  * 12 a root or power is taken of no such number, or an element is not finite
  * 13 a number built is not finite
- * 16 a kind, flag or like number of the call is wrong
+ * 14 the header or the contents of the file are wrong
+ * 15 the satellite is not in the file
+ * 16 a kind, flag or like number of the call or of a record is wrong, or the kind is not the orbit's class
+ * 17 a number of the record is not finite
+ * 18 the record's state is not what its steps make of the fresh state
+ * 19 the output is shorter than the new file
+ * 20 a 129th satellite, or a new file of 2^32 bytes or more
  */
 #ifndef ORBT_H
 #define ORBT_H
 
+#include <stddef.h>
 #include <stdint.h>
 
 #ifdef __cplusplus
@@ -89,6 +96,30 @@ uint32_t orbt_step(uint32_t kind, const double constants[ORBT_CONSTANTS], uint32
 uint32_t orbt_ask(uint32_t kind, uint32_t flag, const double constants[ORBT_CONSTANTS], uint32_t held,
                   double state[ORBT_STATE], const double question[ORBT_QUESTION], double elements[ORBT_ELEMENTS],
                   uint32_t *steps);
+
+/* ---- the store: a file of records by satellite, in the caller's memory */
+
+/* A save makes a file longer by at most this: an entry and the longest body. */
+#define ORBT_RECORD 316
+
+/* How many records a file has: 0 or 14. */
+uint32_t orbt_contents(const uint8_t *file, size_t file_size, uint32_t *count);
+
+/* The satellite of a record, the first being 0: 0, 14, or 15 past the last. */
+uint32_t orbt_satellite(const uint8_t *file, size_t file_size, uint32_t place, uint32_t *satellite);
+
+/* Constants and state of a satellite, together: 0, or 14 to 18, which leave all but steps as it was.
+ * held: 1 where the record has a state; else 0, and the state is what it was. steps: those of the
+ * replay, also where it ends in 18; 0 for 14 to 17. */
+uint32_t orbt_restore(const uint8_t *file, size_t file_size, uint32_t satellite, uint32_t *kind, uint32_t *flag,
+                      double constants[ORBT_CONSTANTS], uint32_t *held, double state[ORBT_STATE], uint32_t *steps);
+
+/* Writes the file with one record added or replaced into out, which may not overlap it. 0, or in this
+ * order 16 (kind, flag or held is no such number), 4, 5, 14, 16, 17, 18, 20, 19, which write nothing; an
+ * answer leaves the bytes of out past *size as they were. */
+uint32_t orbt_save(const uint8_t *file, size_t file_size, uint8_t *out, size_t out_size, uint32_t satellite,
+                   uint32_t kind, uint32_t flag, const double constants[ORBT_CONSTANTS], uint32_t held,
+                   const double state[ORBT_STATE], size_t *size);
 
 #ifdef __cplusplus
 }
