@@ -30,7 +30,7 @@ use Rattle.resonance.specs.Advance.{steps, made, agrees, advanceOf, replayOf}
 use Rattle.resonance.specs.Ask.{numbersRefusal, nodeOf, reachedBy, advancedBy, resonantAsk, kindAsk, checkedAsk, stateAskOf, askOf}
 use Rattle.resonance.proofs.Placed.{at-number}
 use Rattle.resonance.proofs.Steps.{steps-keep, step-fits, steps-place, made-all}
-use Rattle.resonance.proofs.Laws.{reported}
+use Rattle.stepping.proofs.Laws.{reported}
 use Rattle.body.specs.Examine.{replayed}
 use Rattle.store.specs.declared.restore.Restored.{Restored}
 use Rattle.store.specs.declared.restore.Restored.the-variants as R

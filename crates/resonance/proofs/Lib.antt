@@ -2,5 +2,3 @@ pub mod Placed
 pub mod Accepted
 pub mod Steps
 pub mod Walk
-pub mod Laws
-pub mod Examples

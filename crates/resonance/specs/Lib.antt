@@ -4,5 +4,3 @@ pub mod Rates
 pub mod State
 pub mod Advance
 pub mod Ask
-pub mod Laws
-pub mod Examples

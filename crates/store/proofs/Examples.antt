@@ -7,7 +7,7 @@ use Rattle.orbit.specs.declared.propagator.Resonant.{Resonant}
 use Rattle.orbit.specs.declared.propagator.Resonant.the-variants.{No}
 use Rattle.orbit.specs.declared.propagator.Constants.{Constants}
 use Rattle.resonance.specs.declared.state.MaybeState.the-variants.{None}
-use Rattle.resonance.proofs.Examples.{examples}
+use Rattle.stepping.proofs.Examples.{examples}
 use Rattle.contents.specs.Examples.{empty}
 use Rattle.contents.specs.declared.save.Saved.{Saved}
 use Rattle.contents.proofs.Examples.{empty-file}

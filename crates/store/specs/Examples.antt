@@ -7,7 +7,7 @@ use lib.Ieee.{Float}
 use Rattle.orbit.specs.declared.propagator.Resonant.the-variants.{No}
 use Rattle.orbit.specs.declared.propagator.Constants.{Constants}
 use Rattle.resonance.specs.declared.state.MaybeState.the-variants.{None}
-use Rattle.resonance.specs.Examples.{Examples}
+use Rattle.stepping.specs.Examples.{Examples}
 use Rattle.contents.specs.Examples.{empty, seven, Empty}
 use Rattle.body.specs.Body.{bodyOf}
 use Rattle.body.specs.Examine.{examined}
@@ -24,7 +24,7 @@ pub record Seven (c : Constants) : Type 0 where
   pub written : examined c None ≡ B.Of c None 0 → stored empty 7 c None 196 ≡ Written 196
   pub short : examined c None ≡ B.Of c None 0 → stored empty 7 c None 195 ≡ OutputShort
 
--- (a) to (l), the table of crate resonance; (m), the empty file: it is right with count 0, any restore from it is refused 15, and a save of satellite 7
+-- (a) to (l), the table of crate stepping; (m), the empty file: it is right with count 0, any restore from it is refused 15, and a save of satellite 7
 -- makes of it the file of document 01
 pub record Marked : Type 0 where
   pub a-to-l : Examples

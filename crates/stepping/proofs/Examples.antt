@@ -4,9 +4,9 @@ use lib.Ieee.{round, sum, add, sub, neg, lt, le}
 use Rattle.floats.specs.Rounded.{dec}
 use Rattle.orbit.specs.Class.{oneDay, halfDay}
 use Rattle.elements.specs.Elements.{inRange}
 use Rattle.resonance.specs.Time.{refusal, plan, back}
 use Rattle.resonance.specs.Advance.{advanceOf}
-use Rattle.resonance.specs.Examples.{Examples}
+use Rattle.stepping.specs.Examples.{Examples}
 
 pub examples : Examples
 unfolding advanceOf plan back refusal oneDay halfDay inRange dec round sum add sub neg lt le
