@@ -1,8 +1,10 @@
 // Replays data/floats.txt on the crate `floats`: a call to a line, with the refusal number and the
 // answer that it must give. Writes how many lines passed, and the first that did not.
-ghost use Prim.Native.Nat.{_≤_, _<_};
+ghost use Prim.Native.Nat.{_≤_};
 ghost use mathlib.Core.Path.{_≡_};
 ghost use lib.ListN.{length};
+use bytes::scan::find;
+use check::same;
 use floats::atan::atan2;
 use floats::finite::bits_of;
 use floats::finite::of_bits;
@@ -89,14 +91,11 @@ fn float_at(line: &[u8], at: usize) -> f64
 
 // Whether the line begins with `word`.
 fn starts(line: &[u8], word: &[u8]) -> bool {
-    let mut i = 0;
-    while i < word.len() {
-        if byte(line, i) != word[i] {
-            return false;
-        }
-        i += 1;
+    let n = word.len();
+    if line.len() < n {
+        return false;
     }
-    true
+    same(&line[0..n], word)
 }
 
 // ---- one case
@@ -141,12 +140,12 @@ fn is_told(line: &[u8], at: usize, a: Answer, more: usize) -> bool
         return false;
     }
     if a.number != 0 {
-        return line.len() == at + 3;
+        return line.len() == at + 2;
     }
     if bits_at(line, at + 3) != bits_of(a.value) {
         return false;
     }
-    line.len() == at + 20 + more
+    line.len() == at + 19 + more
 }
 
 // Whether two floats are within 2^-45 of each other.
@@ -211,21 +210,6 @@ fn passes(line: &[u8]) -> bool {
 
 // ---- the file
 
-// Where the line that begins at `from` ends, with its line end.
-fn line_end(s: &[u8], from: usize) -> usize
-    requires { ⌜ from < length (now s) ⌝ }
-    ensures { λ r. ⌜ (from < r) × (r ≤ length (now (s .entry))) ⌝ }
-{
-    let mut i = from;
-    while i < s.len() {
-        if s[i] == b'\n' {
-            return i + 1;
-        }
-        i += 1;
-    }
-    i
-}
-
 fn write(text: &[u8]) {
     io::write_all(STDOUT_FILENO, text);
 }
@@ -262,6 +246,7 @@ fn passed_cases(line: &[u8], is_first: bool) -> u64
     if is_first {
         write(b"differs: ");
         write(line);
+        write(b"\n");
     }
     0
 }
@@ -269,13 +254,14 @@ fn passed_cases(line: &[u8], is_first: bool) -> u64
 fn replay(s: &[u8]) {
     let mut passed: u64 = 0;
     let mut total: u64 = 0;
+    let n = s.len();
     let mut i = 0;
-    while i < s.len() {
-        let e = line_end(s, i);
+    while i < n {
+        let e = find(s, i, n, b'\n');
         let line = &s[i..e];
         passed += passed_cases(line, passed == total);
         total += cases(line);
-        i = e;
+        i = e + 1;
     }
     write_tally(passed, total);
 }

@@ -3,6 +3,8 @@
 ghost use Prim.Native.Nat.{_≤_, _<_};
 ghost use mathlib.Core.Path.{_≡_};
 ghost use lib.ListN.{length};
+use bytes::scan::find;
+use check::same;
 use constants::build::Built;
 use constants::build::build;
 use constants::geometry::Bodies;
@@ -54,32 +56,11 @@ fn digit(b: u8) -> u64 {
 
 // Whether the line begins with `word`.
 fn starts(line: &[u8], word: &[u8]) -> bool {
-    let mut i = 0;
-    while i < word.len() {
-        if byte(line, i) != word[i] {
-            return false;
-        }
-        i += 1;
+    let n = word.len();
+    if line.len() < n {
+        return false;
     }
-    true
-}
-
-// Where the word that begins at `from` ends.
-fn word_end(line: &[u8], from: usize) -> usize
-    requires { ⌜ from ≤ length (now line) ⌝ }
-    ensures { λ r. ⌜ (from ≤ r) × (r ≤ length (now (line .entry))) ⌝ }
-{
-    let mut i = from;
-    while i < line.len() {
-        if line[i] == b' ' {
-            return i;
-        }
-        if line[i] == b'\n' {
-            return i;
-        }
-        i += 1;
-    }
-    i
+    same(&line[0..n], word)
 }
 
 // The number of the word: at most 16 hexadecimal digits. What is no such word gives the pattern of a
@@ -103,17 +84,16 @@ fn value(word: &[u8]) -> u64 {
 
 // The numbers of the words after the name go into `words`. Answers how many there are, at most 80.
 fn read_words(line: &[u8], words: &mut [u64; 80]) -> usize {
-    let mut at = word_end(line, 0);
+    let n = line.len();
+    let mut at = find(line, 0, n, b' ');
     let mut count = 0;
-    while at < line.len() {
-        if line[at] != b' ' {
-            return count;
-        }
+    while at < n {
         if count >= 80 {
             return count;
         }
-        let e = word_end(line, at + 1);
-        words[count] = value(&line[at + 1..e]);
+        let from = at + 1;
+        let e = find(line, from, n, b' ');
+        words[count] = value(&line[from..e]);
         count += 1;
         at = e;
     }
@@ -527,21 +507,6 @@ fn passes(line: &[u8]) -> bool {
 
 // ---- the file
 
-// Where the line that begins at `from` ends, with its line end.
-fn line_end(s: &[u8], from: usize) -> usize
-    requires { ⌜ from < length (now s) ⌝ }
-    ensures { λ r. ⌜ (from < r) × (r ≤ length (now (s .entry))) ⌝ }
-{
-    let mut i = from;
-    while i < s.len() {
-        if s[i] == b'\n' {
-            return i + 1;
-        }
-        i += 1;
-    }
-    i
-}
-
 fn write(text: &[u8]) {
     io::write_all(STDOUT_FILENO, text);
 }
@@ -578,6 +543,7 @@ fn passed_cases(line: &[u8], is_first: bool) -> u64
     if is_first {
         write(b"differs: ");
         write(line);
+        write(b"\n");
     }
     0
 }
@@ -585,13 +551,14 @@ fn passed_cases(line: &[u8], is_first: bool) -> u64
 fn replay(s: &[u8]) {
     let mut passed: u64 = 0;
     let mut total: u64 = 0;
+    let n = s.len();
     let mut i = 0;
-    while i < s.len() {
-        let e = line_end(s, i);
+    while i < n {
+        let e = find(s, i, n, b'\n');
         let line = &s[i..e];
         passed += passed_cases(line, passed == total);
         total += cases(line);
-        i = e;
+        i = e + 1;
     }
     write_tally(passed, total);
 }
