@@ -2,18 +2,26 @@
 use std::hint::black_box;
 use std::time::Instant;
 
-const REPEATS: usize = 1000;
+/// The table is gone through so often, since a core that others share may be slow for seconds.
+pub const ROUNDS: usize = 10;
+
+/// Repeats of a row in a round.
+pub const REPEATS: usize = 100;
 
 /// A call of two numbers, which are two inputs or one and a number to ignore. It is not inlined, on
 /// either side, so that no loop is merged with what it measures.
 pub type Call = fn(f64, f64) -> f64;
 
-/// Nanoseconds to a call: of calls that do not wait for each other, and of calls that do.
-#[derive(Clone, Copy)]
-struct Time {
-    apart: f64,
-    chained: f64,
+// Nanoseconds to a call, ours and Rust's: of calls that do not wait for each other, and of calls that do.
+struct Row {
+    name: String,
+    apart: [f64; 2],
+    chained: Option<[f64; 2]>,
 }
+
+/// The rows in the order of the first round, with the least times of all rounds.
+#[derive(Default)]
+pub struct Table(Vec<Row>);
 
 fn nanoseconds(calls: usize, work: impl FnOnce() -> f64) -> f64 {
     let start = Instant::now();
@@ -21,40 +29,65 @@ fn nanoseconds(calls: usize, work: impl FnOnce() -> f64) -> f64 {
     start.elapsed().as_nanos() as f64 / calls as f64
 }
 
-fn time(call: Call, inputs: &[(f64, f64)]) -> Time {
-    Time {
-        apart: nanoseconds(inputs.len(), || inputs.iter().map(|&(x, y)| call(x, y)).sum()),
-        // each answer moves the next input by too little to change it
-        chained: nanoseconds(inputs.len(), || {
-            inputs.iter().fold(0.0, |last, &(x, y)| call(x + last, y) * 1e-300)
-        }),
-    }
+fn time_apart(call: Call, inputs: &[(f64, f64)]) -> f64 {
+    nanoseconds(inputs.len(), || inputs.iter().map(|&(x, y)| call(x, y)).sum())
 }
 
-pub fn head(title: &str) {
-    println!("\n{title}, ns to a call\n");
-    println!("| Call | ours | Rust | ratio | ours, chained | Rust, chained | ratio |");
-    println!("|---|---|---|---|---|---|---|");
+// each answer moves the next input by too little to change it
+fn time_chained(call: Call, inputs: &[(f64, f64)]) -> f64 {
+    nanoseconds(inputs.len(), || inputs.iter().fold(0.0, |last, &(x, y)| call(x + last, y) * 1e-300))
 }
 
-pub fn row(name: &str, inputs: &[(f64, f64)], ours: Call, own: Call) {
-    let calls = [ours, own];
-    let mut least = [Time { apart: f64::MAX, chained: f64::MAX }; 2];
-    for _ in 0..REPEATS {
-        for (call, least) in calls.iter().zip(&mut least) {
-            let now = time(*call, inputs);
-            least.apart = least.apart.min(now.apart);
-            least.chained = least.chained.min(now.chained);
+fn lesser(a: [f64; 2], b: [f64; 2]) -> [f64; 2] {
+    [a[0].min(b[0]), a[1].min(b[1])]
+}
+
+impl Table {
+    fn take(&mut self, row: Row) {
+        match self.0.iter_mut().find(|old| old.name == row.name) {
+            Some(old) => {
+                old.apart = lesser(old.apart, row.apart);
+                old.chained = old.chained.zip(row.chained).map(|(a, b)| lesser(a, b));
+            }
+            None => self.0.push(row),
         }
     }
-    let [ours, own] = least;
-    println!(
-        "| {name} | {:.1} | {:.1} | {:.2} | {:.1} | {:.1} | {:.2} |",
-        ours.apart,
-        own.apart,
-        ours.apart / own.apart,
-        ours.chained,
-        own.chained,
-        ours.chained / own.chained
-    );
+
+    /// A float function.
+    pub fn float(&mut self, name: &str, inputs: &[(f64, f64)], ours: Call, own: Call) {
+        let (mut apart, mut chained) = ([f64::MAX; 2], [f64::MAX; 2]);
+        for _ in 0..REPEATS {
+            for (side, call) in [ours, own].into_iter().enumerate() {
+                apart[side] = time_apart(call, inputs).min(apart[side]);
+                chained[side] = time_chained(call, inputs).min(chained[side]);
+            }
+        }
+        self.take(Row { name: name.to_string(), apart, chained: Some(chained) });
+    }
+
+    /// Any other call, of which ours and Rust's make so many at a time.
+    pub fn pair(
+        &mut self,
+        name: String,
+        repeats: usize,
+        calls: usize,
+        mut ours: impl FnMut() -> f64,
+        mut own: impl FnMut() -> f64,
+    ) {
+        let mut apart = [f64::MAX; 2];
+        for _ in 0..repeats {
+            apart = lesser(apart, [nanoseconds(calls, &mut ours), nanoseconds(calls, &mut own)]);
+        }
+        self.take(Row { name, apart, chained: None });
+    }
+
+    pub fn print(&self) {
+        println!("| Call, ns | ours | Rust | ratio | ours, chained | Rust, chained | ratio |");
+        println!("|---|---|---|---|---|---|---|");
+        let cells = |[ours, own]: [f64; 2]| format!("{ours:.1} | {own:.1} | {:.2}", ours / own);
+        for row in &self.0 {
+            let chained = row.chained.map_or("| |".to_string(), cells);
+            println!("| {} | {} | {chained} |", row.name, cells(row.apart));
+        }
+    }
 }

@@ -1,5 +1,5 @@
 //! The float functions.
-use crate::clock::{head, row};
+use crate::clock::Table;
 use measure::random::Random;
 use orbt::c;
 use std::f64::consts::TAU;
@@ -134,20 +134,19 @@ mod own {
     }
 }
 
-pub fn table() {
-    head("Float functions");
+pub fn rows(table: &mut Table) {
     for (name, limit) in [("0.78", 0.78), ("6.3", 6.3), ("1000", 1e3), ("10^6", 1e6)] {
         let angles = within(limit);
-        row(&format!("sin_cos, to {name}"), &angles, sin_cos, own::sin_cos);
-        row(&format!("sin, to {name}"), &angles, sin, own::sin);
-        row(&format!("cos, to {name}"), &angles, cos, own::cos);
+        table.float(&format!("sin_cos, to {name}"), &angles, sin_cos, own::sin_cos);
+        table.float(&format!("sin, to {name}"), &angles, sin, own::sin);
+        table.float(&format!("cos, to {name}"), &angles, cos, own::cos);
     }
-    row("atan2, every quadrant", &within(1.0), atan2, own::atan2);
-    row("floor, to 10^5", &within(1e5), floor, own::floor);
-    row("rem_euclid by 2π, to 20", &within(20.0), rem_euclid, own::rem_euclid);
-    row("rem_euclid by 2π, to 10^6", &within(1e6), rem_euclid, own::rem_euclid);
-    row("sqrt, 2^-10 to 2^10", &positive(), sqrt, own::sqrt);
-    row("cbrt, 2^-10 to 2^10", &positive(), cbrt, own::cbrt);
-    row("two_thirds (powf(2/3)), 2^-10 to 2^10", &positive(), two_thirds, own::two_thirds);
-    row("three_halves (powf(1.5)), 2^-10 to 2^10", &positive(), three_halves, own::three_halves);
+    table.float("atan2, every quadrant", &within(1.0), atan2, own::atan2);
+    table.float("floor, to 10^5", &within(1e5), floor, own::floor);
+    table.float("rem_euclid by 2π, to 20", &within(20.0), rem_euclid, own::rem_euclid);
+    table.float("rem_euclid by 2π, to 10^6", &within(1e6), rem_euclid, own::rem_euclid);
+    table.float("sqrt, 2^-10 to 2^10", &positive(), sqrt, own::sqrt);
+    table.float("cbrt, 2^-10 to 2^10", &positive(), cbrt, own::cbrt);
+    table.float("two_thirds (powf(2/3)), 2^-10 to 2^10", &positive(), two_thirds, own::two_thirds);
+    table.float("three_halves (powf(1.5)), 2^-10 to 2^10", &positive(), three_halves, own::three_halves);
 }

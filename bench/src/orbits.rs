@@ -2,25 +2,23 @@
 //! given to both sides: ours takes them as arguments, and sgp4 finds them ready where it would work them
 //! out, so that neither side's time has that work. Ours is called through the static library, with its
 //! checks; sgp4's constants and state are borrowed, as it has them.
+use crate::clock::{Table, REPEATS};
 use measure::orbits::{question, whole, Orbit};
 use measure::random::Random;
 use measure::rust::{Own, Rust};
 use orbt::c;
 use orbt::orbits::{build, fresh, Constants};
 use std::hint::black_box;
-use std::time::Instant;
 
-const REPEATS: usize = 1000;
-
-struct Case {
+pub struct Case {
     orbit: Orbit,
     given: [f64; 31],
-    ours: Constants,
+    pub ours: Constants,
     own: sgp4_own::Constants,
 }
 
-// orbits of this kind, low or high
-fn cases(kind: u32, is_low: bool, count: usize) -> Vec<Case> {
+/// Orbits of this kind, low or high.
+pub fn cases(kind: u32, is_low: bool, count: usize) -> Vec<Case> {
     let mut r = Random::stream(311 + kind as u64);
     let mut all = vec![];
     while all.len() < count {
@@ -39,27 +37,6 @@ fn cases(kind: u32, is_low: bool, count: usize) -> Vec<Case> {
     all
 }
 
-fn head() {
-    println!("\nOrbits, ns to a call\n");
-    println!("| Call | ours | Rust | ratio |");
-    println!("|---|---|---|---|");
-}
-
-// the least time of many repeats, ours and Rust's in turn, by the number of calls that each makes
-fn row(name: &str, calls: usize, mut ours: impl FnMut() -> f64, mut own: impl FnMut() -> f64) {
-    let mut least = [f64::MAX; 2];
-    for _ in 0..REPEATS {
-        let start = Instant::now();
-        black_box(ours());
-        least[0] = least[0].min(start.elapsed().as_nanos() as f64);
-        let start = Instant::now();
-        black_box(own());
-        least[1] = least[1].min(start.elapsed().as_nanos() as f64);
-    }
-    let [a, b] = least.map(|t| t / calls as f64);
-    println!("| {name} | {a:.1} | {b:.1} | {:.2} |", a / b);
-}
-
 // sgp4 has no call for one step: both run one ask over so many, beside which the rest of the ask is little.
 const STEPS: usize = 4096;
 
@@ -73,11 +50,15 @@ fn long_ours(case: &Case, question: &[f64; 13]) -> f64 {
     state[2]
 }
 
+/// One ask of a fresh state: what sgp4 has for a run of steps.
 #[inline(never)]
-fn long_own(case: &Case, q: [f64; 3]) -> f64 {
+pub fn long_own(case: &Case, q: [f64; 3]) -> f64 {
     let mut state = sgp4_own::fresh(&case.own).unwrap();
     let _ = sgp4_own::ask(&case.own, Some(&mut state), q[0], q[1], q[2], case.orbit.flag);
-    sgp4_own::state_numbers(state)[2]
+    let [time, _, lambda] = sgp4_own::state_numbers(state);
+    // every step is made, and none of them with a NaN
+    assert!(q[0] - time < 720.0 && lambda.is_finite());
+    lambda
 }
 
 // the same steps by the call for one step, which checks constants and state each time
@@ -90,18 +71,20 @@ fn single_ours(case: &Case) -> f64 {
     state[2]
 }
 
-fn steps(kind: u32, name: &str) {
+fn steps(table: &mut Table, kind: u32, name: &str) {
     let case = &cases(kind, false, 1)[0];
     let q = question(&case.ours.numbers, 720.0 * STEPS as f64 + 100.0);
     sgp4_own::give_effects(&[0.0; 10]);
     let asked = whole(q, &[0.0; 10]);
-    row(
-        &format!("step, {name}, in an ask over {STEPS}"),
+    table.pair(
+        format!("step, {name}, in an ask over {STEPS}"),
+        REPEATS,
         STEPS,
         || long_ours(case, &asked),
         || long_own(case, q),
     );
-    row(&format!("step, {name}, by the call for one"), STEPS, || single_ours(case), || long_own(case, q));
+    let name = format!("step, {name}, by the call for one");
+    table.pair(name, REPEATS, STEPS, || single_ours(case), || long_own(case, q));
     sgp4_own::give_nothing();
 }
 
@@ -122,7 +105,7 @@ fn ask_own(case: &Case, q: [f64; 3], state: Option<&mut sgp4_own::ResonanceState
     }
 }
 
-fn asks(kind: u32, is_low: bool, name: &str) {
+fn asks(table: &mut Table, kind: u32, is_low: bool, name: &str) {
     let all = cases(kind, is_low, 512);
     // effects small enough that no eccentricity leaves its range; the same ones for every ask
     let effects = [1e-6; 10];
@@ -133,8 +116,9 @@ fn asks(kind: u32, is_low: bool, name: &str) {
     let mut states: Vec<[f64; 3]> = all.iter().map(|case| fresh(&case.ours).unwrap_or([0.0; 3])).collect();
     let mut own_states: Vec<_> = all.iter().map(|case| sgp4_own::fresh(&case.own)).collect();
     let asked = all.iter().zip(&questions);
-    row(
-        &format!("ask without a step, {name}"),
+    table.pair(
+        format!("ask without a step, {name}"),
+        REPEATS,
         all.len(),
         || asked.clone().zip(&mut states).map(|((case, q), state)| ask_ours(case, q, state)).sum(),
         || {
@@ -162,13 +146,14 @@ fn build_own(case: &Case) -> f64 {
     0.0
 }
 
-fn builds(kind: u32, name: &str) {
+fn builds(table: &mut Table, kind: u32, name: &str) {
     let all = cases(kind, false, 512);
     // the rates of one orbit for all: only their place matters here
     let rates: [f64; 10] = all[0].given[21..].try_into().unwrap();
     sgp4_own::give_rates(&rates);
-    row(
-        &format!("build with geometry, {name}"),
+    table.pair(
+        format!("build with geometry, {name}"),
+        REPEATS,
         all.len(),
         || all.iter().map(build_ours).sum(),
         || all.iter().map(build_own).sum(),
@@ -176,15 +161,14 @@ fn builds(kind: u32, name: &str) {
     sgp4_own::give_nothing();
 }
 
-pub fn table() {
-    head();
-    steps(1, "one-day");
-    steps(2, "half-day");
+pub fn rows(table: &mut Table) {
+    steps(table, 1, "one-day");
+    steps(table, 2, "half-day");
     for (kind, name) in [(0, "non-resonant"), (1, "one-day"), (2, "half-day")] {
-        asks(kind, false, &format!("{name}, I above 0.2"));
-        asks(kind, true, &format!("{name}, I below 0.2"));
+        asks(table, kind, false, &format!("{name}, I above 0.2"));
+        asks(table, kind, true, &format!("{name}, I below 0.2"));
     }
     for (kind, name) in [(0, "non-resonant"), (1, "one-day"), (2, "half-day")] {
-        builds(kind, name);
+        builds(table, kind, name);
     }
 }
