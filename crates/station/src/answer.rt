@@ -19,7 +19,7 @@ fn put_element(name: &[u8], x: f64) {
 }
 
 // The twelve numbers, a line to each.
-pub fn put_elements(e: Elements) {
+fn put_elements(e: Elements) {
     put_element(b"inclination          ", e.orbit.inclination);
     put_element(b"right ascension      ", e.orbit.right_ascension);
     put_element(b"eccentricity         ", e.orbit.eccentricity);
@@ -32,6 +32,17 @@ pub fn put_elements(e: Elements) {
     put_element(b"p34                  ", e.p34);
     put_element(b"p35                  ", e.p35);
     put_element(b"p36                  ", e.p36);
+}
+
+// The elements of an answer that has them.
+pub fn put_answer(a: Answer) {
+    let Answer::Reached(outcome) = a else {
+        return;
+    };
+    let Outcome::Of(e) = outcome else {
+        return;
+    };
+    put_elements(e);
 }
 
 fn fault_number(f: Fault) -> u32 {

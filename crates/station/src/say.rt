@@ -18,6 +18,16 @@ pub fn part(s: &[u8], a: usize, b: usize) -> &[u8] {
     s
 }
 
+// The bytes of s that begin at `at`, so many of them, or all where s has no such part.
+pub fn span(s: &[u8], at: usize, size: usize) -> &[u8] {
+    if at <= s.len() {
+        if size <= s.len() - at {
+            return &s[at..at + size];
+        }
+    }
+    s
+}
+
 // What a refusal's number means.
 fn put_meaning(fd: i32, number: u32) {
     match number {
