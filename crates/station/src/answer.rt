@@ -1,4 +1,5 @@
 // What an ask answers, in words: elements by value and bits, or a refusal.
+use crate::numbers::put_bits;
 use crate::numbers::put_decimal;
 use crate::numbers::put_float;
 use crate::say::ERR;
@@ -62,8 +63,10 @@ fn fault_number(f: Fault) -> u32 {
 fn refuse_carrying(number: u32, eccentricity: f64, t: f64) {
     put_refusal(ERR, number);
     put(ERR, b": ");
-    put_float(ERR, eccentricity);
-    put(ERR, b" at ");
+    put_decimal(ERR, eccentricity, 9, 0);
+    put(ERR, b" (");
+    put_bits(ERR, eccentricity);
+    put(ERR, b") at ");
     put_decimal(ERR, t, 3, 0);
     put(ERR, b" minutes\n");
 }

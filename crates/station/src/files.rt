@@ -33,12 +33,24 @@ fn write_whole(fd: i32, path: &[u8], bytes: &[u8]) -> bool {
     true
 }
 
+// Why a file cannot be made.
+fn refuse_name(path: &[u8]) {
+    let is_taken = os::errno() == libc::EEXIST;
+    fail(path);
+    if is_taken {
+        put(
+            ERR,
+            b"station: if no other save is under way, that file was left by one that was broken off, or is\nnot the program's own: remove it or name another\n",
+        );
+    }
+}
+
 // Makes a file with these bytes. A name that is taken is refused, and nothing is left of a file that could
 // not be written whole.
 pub fn make(path: &[u8], bytes: &[u8]) -> bool {
     let fd = os::create(path);
     if fd < 0 {
-        fail(path);
+        refuse_name(path);
         return false;
     }
     if write_whole(fd, path, bytes) {

@@ -32,48 +32,19 @@ enum Task {
 fn put_usage() {
     put(
         ERR,
-        b"usage: station                      shows a restart on a published orbit\n",
-    );
-    put(
-        ERR,
-        b"       station example FILE         makes a store of three published orbits\n",
-    );
-    put(
-        ERR,
-        b"       station list FILE            the satellites of a store\n",
-    );
-    put(
-        ERR,
-        b"       station check FILE           examines each record of a store\n",
-    );
-    put(
-        ERR,
-        b"       station ask FILE SATELLITE T [P22 P23 [the ten lunisolar numbers]]\n",
-    );
-    put(
-        ERR,
-        b"                                    the elements of a satellite at a time\n",
-    );
-    put(ERR, b"       station save FILE SATELLITE T\n");
-    put(
-        ERR,
-        b"                                    moves a satellite's state to a time, in the store\n",
-    );
-    put(
-        ERR,
-        b"T is in minutes since the satellite's epoch. P22 and P23 are the right ascension and the\n",
-    );
-    put(
-        ERR,
-        b"argument of perigee there, in radians; without them they follow from their rates, and the\n",
-    );
-    put(
-        ERR,
-        b"lunisolar numbers are 0. A number is a decimal such as -720 or 0.25, of at most 15 digits\n",
-    );
-    put(
-        ERR,
-        b"and with no exponent, or 0x and the 16 hexadecimal digits of its bits.\n",
+        b"usage: station                 shows a restart on a published orbit
+       station example FILE    makes a store of three published orbits
+       station list FILE       the satellites of a store
+       station check FILE      examines each record of a store
+       station ask FILE SATELLITE T [P22 P23 [the ten lunisolar numbers]]
+                               the elements of a satellite at a time
+       station save FILE SATELLITE T
+                               moves a satellite's state to a time, in the store
+T is in minutes since the satellite's epoch. P22 and P23 are the right ascension and the
+argument of perigee there, in radians; without them they follow from their rates, and the
+lunisolar numbers are 0. A number is a decimal such as -720 or 0.25, of at most 15 digits
+and with no exponent, or 0x and the 16 hexadecimal digits of its bits.
+",
     );
 }
 
@@ -97,7 +68,7 @@ fn number_of(word: &[u8]) -> Parsed {
 }
 
 fn number_at(i: usize) -> Parsed {
-    let mut word = [0u8; 64];
+    let mut word = [0u8; 256];
     let n = os::arg(i, &mut word);
     number_of(&word[..n])
 }
@@ -117,7 +88,7 @@ fn satellite_of(word: &[u8]) -> Satellite {
 }
 
 fn satellite_at(i: usize) -> Satellite {
-    let mut word = [0u8; 64];
+    let mut word = [0u8; 256];
     let n = os::arg(i, &mut word);
     satellite_of(&word[..n])
 }
@@ -178,11 +149,11 @@ fn perform(path: &[u8], file: &[u8], task: Task) {
     }
 }
 
-// A store of 128 records has at most 40,456 bytes.
+// A store of 128 records has at most 40,456 bytes, and a file on disk comes whole in one read.
 fn put_too_long() {
     put(
         ERR,
-        b"station: the file has more than 65,536 bytes, and no store of 128 records has\n",
+        b"station: the file has more than 65,536 bytes, or comes in parts; a store has at most 40,456\n",
     );
 }
 

@@ -6,6 +6,7 @@ use crate::files::name_beside;
 use crate::files::replace;
 use crate::question::at_time;
 use crate::records::put_record;
+use crate::records::put_state;
 use crate::records::put_time;
 use crate::records::refuse_file;
 use crate::records::tell_long;
@@ -82,7 +83,8 @@ fn put_moved(t: f64, reply: Reply) {
     put(OUT, b"asked at ");
     put_time(t);
     put(OUT, b": ");
-    put_record(controller.constants(), controller.state(), reply.steps);
+    put_state(controller.state(), reply.steps);
+    put(OUT, b"\n");
 }
 
 fn restored(file: &[u8], satellite: u32) -> Resumed {

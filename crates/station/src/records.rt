@@ -73,7 +73,7 @@ fn put_steps(steps: u32) {
     put(OUT, b" steps");
 }
 
-fn put_state(state: MaybeState, steps: u32) {
+pub fn put_state(state: MaybeState, steps: u32) {
     match state {
         MaybeState::None => put(OUT, b"no state"),
         MaybeState::Some(s) => {
@@ -213,9 +213,11 @@ fn put_verdict(n: u64, bad: u64) {
         put_count(OUT, n, b" record, good\n", b" records, all good\n");
         return;
     }
+    put(ERR, b"bad records: ");
     put_whole(ERR, bad);
     put(ERR, b" of ");
-    put_count(ERR, n, b" record is bad\n", b" records bad\n");
+    put_whole(ERR, n);
+    put(ERR, b"\n");
 }
 
 fn check_all(file: &[u8], n: usize) {

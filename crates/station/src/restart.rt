@@ -179,15 +179,11 @@ fn run(c: Constants, other: Constants) -> bool {
 fn put_head() {
     put(
         OUT,
-        b"Molniya 2-14, a half-day orbit, asked every 6 hours over three days.\n",
-    );
-    put(
-        OUT,
-        b"Left: the controller that never restarts. Right: the one that does.\n",
-    );
-    put(
-        OUT,
-        b"Angles in radians, to the nearest in nine places, and the bits of each number.\n\n",
+        b"Molniya 2-14, a half-day orbit, asked every 6 hours over three days.
+Left: the controller that never restarts. Right: the one that does.
+Angles in radians, to the nearest in nine places, and the bits of each number.
+
+",
     );
 }
 
@@ -195,18 +191,19 @@ fn put_verdict(same: bool) {
     if same {
         put(
             OUT,
-            b"\nAll twelve numbers of each answer are equal, bit for bit, at all 13 times:\n",
-        );
-        put(
-            OUT,
-            b"the dish points where it would have pointed without the restart.\n",
+            b"
+All twelve numbers of each answer are equal, bit for bit, at all 13 times:
+the dish points where it would have pointed without the restart.
+",
         );
         return;
     }
-    put(OUT, b"\nThe two runs differ:\n");
     put(
         OUT,
-        b"the dish does NOT point where it would have pointed without the restart.\n",
+        b"
+The two runs differ:
+the dish does NOT point where it would have pointed without the restart.
+",
     );
     put(ERR, b"station: the two runs differ\n");
 }

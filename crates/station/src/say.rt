@@ -4,8 +4,14 @@ pub const OUT: i32 = libc::STDOUT_FILENO;
 
 pub const ERR: i32 = libc::STDERR_FILENO;
 
+// An answer that cannot be written out is told, so that it does not pass for a good one.
 pub fn put(fd: i32, text: &[u8]) {
-    io::write_all(fd, text);
+    if io::write_all(fd, text) {
+        return;
+    }
+    if fd == OUT {
+        io::write_all(ERR, b"station: standard output cannot be written\n");
+    }
 }
 
 // The bytes from a to b, or all of them where s has no such part.
@@ -28,52 +34,66 @@ pub fn span(s: &[u8], at: usize, size: usize) -> &[u8] {
     s
 }
 
-// What a refusal's number means.
-fn put_meaning(fd: i32, number: u32) {
-    match number {
-        1 => put(fd, b"the time is not finite"),
-        2 => put(fd, b"the time is beyond 754,974,720 minutes"),
-        3 => put(fd, b"another number given is not finite"),
-        4 => put(fd, b"a state is given, and the orbit is non-resonant"),
-        5 => put(fd, b"no state is given, and the orbit is resonant"),
-        6 => put(
-            fd,
-            b"the state's time is -0.0, no multiple of 720, or beyond the limit",
-        ),
-        7 => put(
-            fd,
-            b"the state has gone the other way, or past the time asked",
-        ),
-        8 => put(
-            fd,
-            b"the resonance cannot be followed there: an angle or a number on the way is out of range",
-        ),
-        9 => put(fd, b"an angle is beyond 1,048,576"),
-        10 => put(fd, b"the eccentricity is out of range"),
-        11 => put(fd, b"the perturbed eccentricity is outside 0 to 1"),
-        12 => put(
-            fd,
-            b"a root or power is taken of no such number, or an element is not finite",
-        ),
-        13 => put(fd, b"a number built is not finite"),
-        14 => put(
-            fd,
-            b"the file is no store: its header or contents are wrong",
-        ),
-        15 => put(fd, b"the satellite is not in the file"),
-        16 => put(
-            fd,
-            b"the record's kind, flag, zero bytes or length is wrong, or its kind is not its orbit's class",
-        ),
-        17 => put(fd, b"a number of the record is not finite"),
-        18 => put(
-            fd,
-            b"the stored state is not the one that its orbit steps to from fresh",
-        ),
-        19 => put(fd, b"the new file does not fit the room for it"),
-        20 => put(fd, b"the store is full: it has 128 satellites"),
-        _ => put(fd, b"no such refusal"),
+// Where line n of a text begins, the first being 1, or the text's end.
+fn line_start(text: &[u8], n: u32) -> usize {
+    let mut left = n;
+    let mut i: usize = 0;
+    while i < text.len() {
+        if left < 2 {
+            return i;
+        }
+        if text[i] == b'\n' {
+            left -= 1;
+        }
+        i += 1;
     }
+    i
+}
+
+// Where the line ends that has the place `from`.
+fn line_end(text: &[u8], from: usize) -> usize {
+    let mut i = from;
+    while i < text.len() {
+        if text[i] == b'\n' {
+            return i;
+        }
+        i += 1;
+    }
+    i
+}
+
+fn put_line(fd: i32, text: &[u8], n: u32) {
+    let begin = line_start(text, n);
+    put(fd, part(text, begin, line_end(text, begin)));
+}
+
+// What a refusal's number means: its line here.
+fn put_meaning(fd: i32, number: u32) {
+    put_line(
+        fd,
+        b"the time is not finite
+the time is beyond 754,974,720 minutes
+another number given is not finite
+a state is given, and the orbit is non-resonant
+no state is given, and the orbit is resonant
+the state's time is -0.0, no multiple of 720, or beyond the limit
+the state has gone the other way, or past the time asked
+the resonance cannot be followed there: an angle or a number on the way is out of range
+an angle is beyond 1,048,576
+the eccentricity is out of range
+the perturbed eccentricity is outside 0 to 1
+a root or power is taken of no such number, or an element is not finite
+a number built is not finite
+the file is no store: its header or contents are wrong
+the satellite is not in the file
+the record's kind, flag, zero bytes or length is wrong, or its kind is not its orbit's class
+a number of the record is not finite
+the stored state is not the one that its orbit steps to from fresh
+the new file does not fit the room for it
+the store is full: it has 128 satellites
+",
+        number,
+    );
 }
 
 // A refusal: its number and its words, with no line end.
