@@ -33,24 +33,24 @@ fn write_whole(fd: i32, path: &[u8], bytes: &[u8]) -> bool {
     true
 }
 
-// Why a file cannot be made.
-fn refuse_name(path: &[u8]) {
+// Why a file cannot be made; where it is the one beside, what a name that is taken means.
+fn refuse_name(path: &[u8], is_beside: bool) {
     let is_taken = os::errno() == libc::EEXIST;
     fail(path);
-    if is_taken {
+    if is_taken & is_beside {
         put(
             ERR,
-            b"station: if no other save is under way, that file was left by one that was broken off, or is\nnot the program's own: remove it or name another\n",
+            b"station: another save is under way, or one was broken off and left that file: remove it then\n",
         );
     }
 }
 
 // Makes a file with these bytes. A name that is taken is refused, and nothing is left of a file that could
 // not be written whole.
-pub fn make(path: &[u8], bytes: &[u8]) -> bool {
+pub fn make(path: &[u8], is_beside: bool, bytes: &[u8]) -> bool {
     let fd = os::create(path);
     if fd < 0 {
-        refuse_name(path);
+        refuse_name(path, is_beside);
         return false;
     }
     if write_whole(fd, path, bytes) {
@@ -72,17 +72,9 @@ fn swap(path: &[u8], beside: &[u8]) -> bool {
 
 // The bytes go into the file beside, and that takes the place of the old one.
 pub fn replace(path: &[u8], beside: &[u8], bytes: &[u8]) -> bool {
-    if make(beside, bytes) {
+    if make(beside, true, bytes) {
         return swap(path, beside);
     }
-    put(
-        ERR,
-        b"station: the new file is written under that name first; if it is there already, another\n",
-    );
-    put(
-        ERR,
-        b"save is under way, or one was broken off: remove it then\n",
-    );
     false
 }
 

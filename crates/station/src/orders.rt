@@ -193,7 +193,7 @@ pub fn example(path: &[u8]) {
         );
         return;
     }
-    if make(path, part(&three, 0, k)) {
+    if make(path, false, part(&three, 0, k)) {
         put_saved(path);
     }
 }
