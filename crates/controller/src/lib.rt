@@ -2,7 +2,7 @@
 ghost use mathlib.Core.Path.{_≡_};
 ghost use lib.ListN.{length};
 ghost use Rattle.store.specs.Save.{stored, storedFile, outputAfter};
-ghost use Rattle.controller.specs.Running.{started, askedOf, restoredBy, restoreOf};
+ghost use Rattle.controller.specs.Running.{number as restoringNumber, started, askedOf, restoredBy, restoreOf};
 use elements::elements::Question;
 use orbit::propagator::Constants;
 use resonance::ask::Answer;
@@ -34,6 +34,22 @@ pub enum Restoring {
     BodyWrong, // refusal 16
     NumberNotFinite, // refusal 17
     StateWrong, // refusal 18
+}
+
+impl Restoring {
+    // The refusal's number, and 0 where the restore was accepted.
+    pub fn number(self) -> u32
+        ensures { λ r. ⌜ r ≡ restoringNumber self ⌝ }
+    {
+        match self {
+            Restoring::Accepted => 0,
+            Restoring::FileWrong => 14,
+            Restoring::SatelliteMissing => 15,
+            Restoring::BodyWrong => 16,
+            Restoring::NumberNotFinite => 17,
+            Restoring::StateWrong => 18,
+        }
+    }
 }
 
 // The answer of a restore, the controller after it, and the steps of the replay.

@@ -8,7 +8,6 @@ ghost use Rattle.constants.specs.Geometry.{geometryOf, number as geometryNumber
 ghost use Rattle.constants.specs.Build.{number as buildNumber};
 ghost use Rattle.resonance.specs.State.{fresh};
 ghost use Rattle.elements.specs.Elements.{number as outcomeNumber};
-ghost use Rattle.resonance.specs.Refusal.{number as faultNumber};
 ghost use Rattle.orbt.specs.Orbits.{whichOf as whichNamed, siderealOr, bodiesOr, builtFrom, kindOr, constantsOr, BuildLeaves, stateOf as stateIn, stateOr, heldNumber, maybeOf, questionOf as questionIn, elementsList, carriedOver, outcomeOr, elementsOr, answerNumber, isWrong as isWrongOf, AskLeaves, steppedNumber, steppedState, StepLeaves};
 ghost use Rattle.record.specs.Record.{classKind, constantsOf};
 use constants::build::Built;
@@ -36,7 +35,6 @@ use resonance::state::MaybeState;
 use resonance::state::ResonanceState;
 use resonance::state::Stepped;
 use resonance::state::initial_state;
-use resonance::time::Fault;
 
 // ---- class and sidereal time
 
@@ -294,21 +292,6 @@ pub extern "C" fn orbt_fresh(kind: u32, constants: &[f64; 34], state: &mut [f64;
 
 // ---- ask
 
-fn fault_number(f: Fault) -> u32
-    ensures { λ r. ⌜ r ≡ faultNumber f ⌝ }
-{
-    match f {
-        Fault::TimeNotFinite => 1,
-        Fault::TimeBeyondLimit => 2,
-        Fault::NumberNotFinite => 3,
-        Fault::OrbitNonResonant => 4,
-        Fault::NoState => 5,
-        Fault::StateMisplaced => 6,
-        Fault::NotOnward => 7,
-        Fault::RatesRefused => 8,
-    }
-}
-
 fn outcome_number(o: Outcome) -> u32
     ensures { λ r. ⌜ r ≡ outcomeNumber o ⌝ }
 {
@@ -331,7 +314,7 @@ fn answer_number(a: Answer) -> u32
     ensures { λ r. ⌜ r ≡ answerNumber a ⌝ }
 {
     match a {
-        Answer::Refused(f) => fault_number(f),
+        Answer::Refused(f) => f.number(),
         Answer::Reached(o) => outcome_number(o),
     }
 }
@@ -479,7 +462,7 @@ fn stepped_number(s: Stepped) -> u32
 {
     match s {
         Stepped::To(_) => 0,
-        Stepped::Refused { fault, state: _ } => fault_number(fault),
+        Stepped::Refused { fault, state: _ } => fault.number(),
     }
 }
 

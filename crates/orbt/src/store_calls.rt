@@ -2,7 +2,6 @@
 ghost use mathlib.Core.Path.{_≡_};
 ghost use Rattle.contents.specs.Find.{countedIn, listedIn, countedNumber, listedNumber};
 ghost use Rattle.store.specs.Restore.{restoredFrom};
-ghost use Rattle.store.specs.Save.{number as storedNumber};
 ghost use Rattle.orbt.specs.Store.{countOr, satelliteOr, flagNumber, RestoreLeaves, sizeOr, SaveLeaves};
 use crate::orbit_calls::is_held;
 use crate::orbit_calls::is_wrong;
@@ -117,22 +116,6 @@ pub extern "C" fn orbt_restore(
 
 // ---- save
 
-fn stored_number(r: Stored) -> u32
-    ensures { λ n. ⌜ n ≡ storedNumber r ⌝ }
-{
-    match r {
-        Stored::OrbitNonResonant => 4,
-        Stored::NoState => 5,
-        Stored::FileWrong => 14,
-        Stored::BodyWrong => 16,
-        Stored::NumberNotFinite => 17,
-        Stored::StateWrong => 18,
-        Stored::StoreFull => 20,
-        Stored::OutputShort => 19,
-        Stored::Written(_) => 0,
-    }
-}
-
 fn size_or(old: usize, r: Stored) -> usize
     ensures { λ n. ⌜ n ≡ sizeOr old r ⌝ }
 {
@@ -172,5 +155,5 @@ pub extern "C" fn orbt_save(
     let c = constants_of(kind, flag == 1, constants);
     let r = save(file, out, satellite, c, maybe_state(held, *state));
     *size = size_or(*size, r);
-    stored_number(r)
+    r.number()
 }

@@ -4,6 +4,7 @@ ghost use mathlib.Core.Path.{_≡_};
 ghost use lib.Dec.{T};
 ghost use lib.Ieee.Scale.{finite};
 ghost use Rattle.floats.specs.Value.{atMost};
+ghost use Rattle.resonance.specs.Refusal.{number as faultNumber};
 ghost use Rattle.resonance.specs.Time.{limit, placed, sameWay, notEarlier, refusal, ordering, delta, due};
 use floats::finite::is_finite;
 use floats::finite::is_negative;
@@ -19,6 +20,24 @@ pub enum Fault {
     StateMisplaced, // refusal 6
     NotOnward, // refusal 7
     RatesRefused, // refusal 8
+}
+
+impl Fault {
+    // The refusal's number.
+    pub fn number(self) -> u32
+        ensures { λ r. ⌜ r ≡ faultNumber self ⌝ }
+    {
+        match self {
+            Fault::TimeNotFinite => 1,
+            Fault::TimeBeyondLimit => 2,
+            Fault::NumberNotFinite => 3,
+            Fault::OrbitNonResonant => 4,
+            Fault::NoState => 5,
+            Fault::StateMisplaced => 6,
+            Fault::NotOnward => 7,
+            Fault::RatesRefused => 8,
+        }
+    }
 }
 
 pub enum Checked {

@@ -11,7 +11,6 @@ use elements::elements::Elements;
 use elements::elements::Outcome;
 use floats::finite::bits_of;
 use resonance::ask::Answer;
-use resonance::time::Fault;
 
 fn put_element(name: &[u8], x: f64) {
     put(OUT, name);
@@ -46,19 +45,6 @@ pub fn put_answer(a: Answer) {
     put_elements(e);
 }
 
-fn fault_number(f: Fault) -> u32 {
-    match f {
-        Fault::TimeNotFinite => 1,
-        Fault::TimeBeyondLimit => 2,
-        Fault::NumberNotFinite => 3,
-        Fault::OrbitNonResonant => 4,
-        Fault::NoState => 5,
-        Fault::StateMisplaced => 6,
-        Fault::NotOnward => 7,
-        Fault::RatesRefused => 8,
-    }
-}
-
 // Refusals 10 and 11 carry an eccentricity and the time.
 fn refuse_carrying(number: u32, eccentricity: f64, t: f64) {
     put_refusal(ERR, number);
@@ -75,7 +61,7 @@ fn refuse_carrying(number: u32, eccentricity: f64, t: f64) {
 pub fn is_refused(a: Answer) -> bool {
     match a {
         Answer::Refused(fault) => {
-            refuse(fault_number(fault));
+            refuse(fault.number());
             true
         }
         Answer::Reached(outcome) => match outcome {

@@ -10,8 +10,6 @@ use crate::records::put_state;
 use crate::records::put_time;
 use crate::records::refuse_file;
 use crate::records::tell_long;
-use crate::refusals::restore_number;
-use crate::refusals::save_number;
 use crate::refusals::saved_size;
 use crate::say::ERR;
 use crate::say::OUT;
@@ -102,7 +100,7 @@ fn asked(r: Resumed, order: Order) -> Reply {
 pub fn ask(file: &[u8], order: Order) {
     let r = restored(file, order.satellite);
     let restoring = r.answer;
-    if is_restore_refused(file, restore_number(restoring)) {
+    if is_restore_refused(file, restoring.number()) {
         return;
     }
     let reply = asked(r, order);
@@ -142,7 +140,7 @@ fn write_over(path: &[u8], bytes: &[u8]) {
 fn save_moved(path: &[u8], file: &[u8], satellite: u32, controller: Controller) {
     let mut room = io::large_buffer();
     let stored = controller.save(file, &mut room, satellite);
-    let number = save_number(stored);
+    let number = stored.number();
     if number != 0 {
         refuse(number);
         put(ERR, b"station: the file is as it was\n");
@@ -156,7 +154,7 @@ fn save_moved(path: &[u8], file: &[u8], satellite: u32, controller: Controller) 
 pub fn save(path: &[u8], file: &[u8], order: Order) {
     let r = restored(file, order.satellite);
     let restoring = r.answer;
-    if is_restore_refused(file, restore_number(restoring)) {
+    if is_restore_refused(file, restoring.number()) {
         return;
     }
     let reply = asked(r, order);

@@ -6,8 +6,6 @@ use crate::numbers::put_bits;
 use crate::numbers::put_decimal;
 use crate::numbers::put_whole;
 use crate::question::at_time;
-use crate::refusals::restore_number;
-use crate::refusals::save_number;
 use crate::refusals::saved_size;
 use crate::say::ERR;
 use crate::say::OUT;
@@ -109,7 +107,7 @@ fn ask_both(runs: Runs) -> Runs {
 fn resume(fresh: Controller, file: &[u8]) -> Controller {
     let r = fresh.restore(file, SATELLITE);
     let answer = r.answer;
-    let number = restore_number(answer);
+    let number = answer.number();
     if number == 0 {
         put(
             OUT,
@@ -135,7 +133,7 @@ fn resume_from(fresh: Controller, room: &[u8], size: usize) -> Controller {
 fn restart(old: Controller, fresh: Controller) -> Controller {
     let mut room = [0u8; 512];
     let stored = old.save(b"ORBT\x01\x00\x00\x00", &mut room, SATELLITE);
-    let number = save_number(stored);
+    let number = stored.number();
     if number != 0 {
         refuse(number);
         return fresh;

@@ -1,7 +1,7 @@
 // A save: constants with none or a state, examined and written into a new file as one record.
 ghost use mathlib.Core.Path.{_≡_};
 ghost use lib.ListN.{length};
-ghost use Rattle.store.specs.Save.{isResonant as isResonantKind, isGiven as isGivenState, ofSaved, storedFile, stored, outputAfter};
+ghost use Rattle.store.specs.Save.{number as storedNumber, isResonant as isResonantKind, isGiven as isGivenState, ofSaved, storedFile, stored, outputAfter};
 use body::bytes::body_of;
 use body::bytes::body_size;
 use body::examine::Body;
@@ -24,6 +24,25 @@ pub enum Stored {
     StoreFull, // refusal 20
     OutputShort, // refusal 19
     Written(usize), // the length of the new file
+}
+
+impl Stored {
+    // The refusal's number, and 0 where the new file was written.
+    pub fn number(self) -> u32
+        ensures { λ r. ⌜ r ≡ storedNumber self ⌝ }
+    {
+        match self {
+            Stored::OrbitNonResonant => 4,
+            Stored::NoState => 5,
+            Stored::FileWrong => 14,
+            Stored::BodyWrong => 16,
+            Stored::NumberNotFinite => 17,
+            Stored::StateWrong => 18,
+            Stored::StoreFull => 20,
+            Stored::OutputShort => 19,
+            Stored::Written(_) => 0,
+        }
+    }
 }
 
 // Whether the kind that constants carry is resonant.

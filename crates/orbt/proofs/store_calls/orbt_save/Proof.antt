@@ -44,7 +44,7 @@ returns-2 c =
     ap (λ (q : Constants). storedFile s (a .satellite) q (m .maybe-state .result)) (k .constants-of .ensures)
     ∙ ap (storedFile s (a .satellite) d) (m .maybe-state .ensures) in
     by-test _ false _ _ _ _ _ _ _ (sym (w .is-wrong .ensures) ∙ e .if1 .left) (
-      c .stored-number .ensures ∙ ap number called,
+      c .number .ensures ∙ ap number called,
       v .save .ensures .1 ∙ ap (λ (l : List ℕ). outputAfter (v .save .result) l out) new ∙ ap (λ (r : Stored). outputAfter r (storedFile s (a .satellite) d y) out) called,
       z .size-or .ensures ∙ ap (sizeOr (now (a .size))) called,
     )
