@@ -39,7 +39,7 @@ extern "C" {
 uint32_t orbt_sqrt(double x, double *root);           /* the nearest float to the root of x >= 0 */
 uint32_t orbt_cbrt(double x, double *root);           /* the greatest float whose cube is not above x > 0 */
 uint32_t orbt_two_thirds(double x, double *power);    /* x^(2/3): that root squared */
-uint32_t orbt_three_halves(double x, double *power);  /* x^1.5: x times its root */
+uint32_t orbt_three_halves(double x, double *power);  /* x^1.5: x times its root; may overflow */
 
 /* 0, or 9 */
 uint32_t orbt_sin(double x, double *sine);

@@ -38,10 +38,11 @@ abbrev pub finiteHeld : MaybeState → Bool
 finiteHeld None = true
 finiteHeld (Some z) = finiteState z
 
--- not 18: a non-resonant orbit has no state, and the state of a resonant one is what its replay gives; with the steps that were made
+-- a replay that makes no step
 abbrev pub unstepped : Bool → Replayed
 unstepped b = record { same = b; steps = 0 }
 
+-- not 18: a non-resonant orbit has no state, and the state of a resonant one is what its replay gives; with the steps that were made
 abbrev pub replayed : Constants → Resonant → MaybeState → Replayed
 replayed c (No a0) None = unstepped true
 replayed c (No a0) (Some z) = unstepped false
