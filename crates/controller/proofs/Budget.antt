@@ -13,8 +13,8 @@ use Rattle.orbit.specs.declared.propagator.Resonant.{Resonant}
 use Rattle.orbit.specs.declared.propagator.Resonant.the-variants.{No, Yes}
 use Rattle.orbit.specs.declared.propagator.Constants.{Constants}
 use Rattle.elements.specs.declared.elements.Question.{Question}
-use Rattle.resonance.specs.declared.time.Checked.{Checked}
-use Rattle.resonance.specs.declared.time.Checked.the-variants.{Passed, Refused as refusedCheck}
+use Rattle.times.specs.declared.time.Checked.{Checked}
+use Rattle.times.specs.declared.time.Checked.the-variants.{Passed, Refused as refusedCheck}
 use Rattle.resonance.specs.declared.rates.Integrator.{Integrator}
 use Rattle.resonance.specs.declared.state.ResonanceState.{ResonanceState}
 use Rattle.resonance.specs.declared.state.MaybeState.{MaybeState}
@@ -24,11 +24,11 @@ use Rattle.resonance.specs.declared.advance.Advanced.the-variants.{At, Refused 
 use Rattle.resonance.specs.declared.ask.Answer.{Answer}
 use Rattle.resonance.specs.declared.ask.Answer.the-variants.{Refused, Reached}
 use Rattle.resonance.specs.declared.ask.StateAsked.{StateAsked}
-use Rattle.resonance.specs.Time.{number, back, placed, zeroTime}
+use Rattle.times.specs.Time.{number, back, placed, zeroTime}
 use Rattle.resonance.specs.State.{freshOf, finiteState, integrator}
 use Rattle.resonance.specs.Advance.{steps, made, agrees, advanceOf, replayOf}
 use Rattle.resonance.specs.Ask.{numbersRefusal, nodeOf, reachedBy, advancedBy, resonantAsk, kindAsk, checkedAsk, stateAskOf, askOf}
-use Rattle.resonance.proofs.Placed.{at-number}
+use Rattle.times.proofs.Placed.{at-number}
 use Rattle.resonance.proofs.Steps.{steps-keep, step-fits, steps-place, made-all}
 use Rattle.stepping.proofs.Laws.{reported}
 use Rattle.body.specs.Examine.{replayed}

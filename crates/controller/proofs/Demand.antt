@@ -16,9 +16,9 @@ use Rattle.orbit.specs.declared.propagator.Resonant.the-variants.{No, Yes}
 use Rattle.orbit.specs.declared.propagator.Constants.{Constants}
 use Rattle.elements.specs.declared.elements.Question.{Question}
 use Rattle.elements.specs.declared.elements.Outcome.{Outcome}
-use Rattle.resonance.specs.declared.time.Fault.{Fault}
-use Rattle.resonance.specs.declared.time.Checked.{Checked}
-use Rattle.resonance.specs.declared.time.Checked.the-variants.{Passed, Refused as refusedCheck}
+use Rattle.times.specs.declared.time.Fault.{Fault}
+use Rattle.times.specs.declared.time.Checked.{Checked}
+use Rattle.times.specs.declared.time.Checked.the-variants.{Passed, Refused as refusedCheck}
 use Rattle.resonance.specs.declared.rates.Integrator.{Integrator}
 use Rattle.resonance.specs.declared.state.ResonanceState.{ResonanceState}
 use Rattle.resonance.specs.declared.state.MaybeState.{MaybeState}
@@ -27,7 +27,7 @@ use Rattle.resonance.specs.declared.ask.Answer.{Answer}
 use Rattle.resonance.specs.declared.ask.Answer.the-variants.{Refused, Reached}
 use Rattle.resonance.specs.declared.ask.StateAsked.{StateAsked}
 use Rattle.resonance.specs.declared.ask.Asked.{Asked}
-use Rattle.resonance.specs.Time.{limit, number, back, zeroTime, placed, multiple, refusal}
+use Rattle.times.specs.Time.{limit, number, back, zeroTime, placed, multiple, refusal}
 use Rattle.resonance.specs.State.{freshOf, freshBy, fresh, finiteState, sameState, stepOf, integrator}
 use Rattle.resonance.specs.Advance.{steps, agrees, replayOf}
 use Rattle.resonance.specs.Ask.{numbersRefusal, givenBack, advancedBy, resonantAsk, kindAsk, checkedAsk, plainAsk, checkedNone, stateAskOf, noneAskOf, held, askOf}
@@ -43,7 +43,7 @@ use Rattle.store.specs.declared.restore.Restored.the-variants as R
 use Rattle.store.specs.Restore.{restoredFrom}
 use Rattle.controller.specs.Running.{restoredBy}
 use Rattle.controller.specs.Demand.{Event, asks, saves, resets, restores, Session, timeAfter, afterRestore, storedTime, happen, run, start, GoodBy, Good, Demand3}
-use Rattle.resonance.proofs.Accepted.{accepted-most, number-most}
+use Rattle.times.proofs.Accepted.{accepted-most, number-most}
 use Rattle.resonance.proofs.Steps.{no-state, Moved, step-is, steps-keep}
 use Rattle.resonance.proofs.Walk.{advance-refused}
 use Rattle.controller.proofs.Restart.{OnNode, resonant}

@@ -9,7 +9,7 @@ use Rattle.elements.specs.declared.elements.Question.{Question}
 use Rattle.resonance.specs.declared.state.ResonanceState.{ResonanceState}
 use Rattle.resonance.specs.declared.state.MaybeState.{MaybeState}
 use Rattle.resonance.specs.declared.state.MaybeState.the-variants.{None, Some}
-use Rattle.resonance.specs.Time.{number, back}
+use Rattle.times.specs.Time.{number, back}
 use Rattle.resonance.specs.Ask.{askOf}
 use Rattle.store.proofs.Kept.{save-restores}
 use Rattle.controller.specs.Running.{after, askedOf, restoredBy}

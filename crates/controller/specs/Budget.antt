@@ -6,7 +6,7 @@ use lib.Ieee.{Float}
 use Rattle.orbit.specs.declared.propagator.Resonance.{Resonance}
 use Rattle.orbit.specs.declared.propagator.Resonant.the-variants.{Yes}
 use Rattle.orbit.specs.declared.propagator.Constants.{Constants}
-use Rattle.resonance.specs.Time.{number}
+use Rattle.times.specs.Time.{number}
 use Rattle.controller.specs.declared.Controller.{Controller}
 use Rattle.controller.specs.declared.Restoring.the-variants.{Accepted}
 use Rattle.controller.specs.Running.{askedOf, restoreOf}

@@ -12,7 +12,7 @@ use Rattle.resonance.specs.declared.state.MaybeState.{MaybeState}
 use Rattle.resonance.specs.declared.state.MaybeState.the-variants.{None, Some}
 use Rattle.resonance.specs.declared.ask.Answer.{Answer}
 use Rattle.resonance.specs.declared.ask.Answer.the-variants.{Refused, Reached}
-use Rattle.resonance.specs.Time.{number, back, zeroTime}
+use Rattle.times.specs.Time.{number, back, zeroTime}
 use Rattle.resonance.specs.State.{freshOf, integrator}
 use Rattle.resonance.specs.Advance.{steps}
 use Rattle.controller.specs.declared.Controller.{Controller}

@@ -6,7 +6,7 @@ use lib.ListN.{length}
 use Rattle.orbit.specs.declared.propagator.Constants.{Constants}
 use Rattle.elements.specs.declared.elements.Question.{Question}
 use Rattle.elements.specs.declared.elements.Outcome.{Outcome}
-use Rattle.resonance.specs.declared.time.Fault.the-variants.{NotOnward}
+use Rattle.times.specs.declared.time.Fault.the-variants.{NotOnward}
 use Rattle.resonance.specs.declared.ask.Answer.the-variants.{Refused, Reached}
 use Rattle.contents.specs.Format.{Bytes}
 use Rattle.body.specs.Body.{bodyNumbers}

@@ -8,7 +8,7 @@ use Rattle.orbit.specs.declared.propagator.Resonant.the-variants.{Yes}
 use Rattle.orbit.specs.declared.propagator.Constants.{Constants}
 use Rattle.elements.specs.declared.elements.Question.{Question}
 use Rattle.elements.specs.declared.elements.Outcome.{Outcome}
-use Rattle.resonance.specs.declared.time.Fault.the-variants.{NotOnward}
+use Rattle.times.specs.declared.time.Fault.the-variants.{NotOnward}
 use Rattle.resonance.specs.declared.rates.Integrator.{Integrator}
 use Rattle.resonance.specs.declared.state.ResonanceState.{ResonanceState}
 use Rattle.resonance.specs.declared.state.MaybeState.the-variants.{Some}

@@ -27,7 +27,7 @@ use Rattle.elements.specs.declared.elements.Question.{Question}
 use Rattle.elements.specs.declared.elements.Elements.{Elements}
 use Rattle.elements.specs.declared.elements.Outcome.{Outcome}
 use Rattle.elements.specs.declared.elements.Outcome.the-variants.{Of as found, AngleRefused, OutOfRangeEccentricity, OutOfRangePerturbedEccentricity, ElementsNotFinite}
-use Rattle.resonance.specs.Refusal.{number as faultNumber}
+use Rattle.times.specs.Refusal.{number as faultNumber}
 use Rattle.resonance.specs.State.{stepped}
 use Rattle.resonance.specs.Ask.{askOf}
 use Rattle.resonance.specs.declared.state.ResonanceState.{ResonanceState}

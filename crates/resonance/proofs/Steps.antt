@@ -14,11 +14,11 @@ use Rattle.resonance.specs.declared.rates.Rates.the-variants.{Of as rate
 use Rattle.resonance.specs.declared.state.ResonanceState.{ResonanceState}
 use Rattle.resonance.specs.declared.state.MaybeState.{MaybeState}
 use Rattle.resonance.specs.declared.state.MaybeState.the-variants.{None, Some}
-use Rattle.resonance.specs.Time.{delta}
+use Rattle.times.specs.Time.{delta}
 use Rattle.resonance.specs.Rates.{ratesOf}
 use Rattle.resonance.specs.State.{finiteState, moved, movedBy, stepBy, stepOf}
 use Rattle.resonance.specs.Advance.{andThen, steps, oneMore, made}
-use Rattle.resonance.proofs.Placed.{At, at-next}
+use Rattle.times.proofs.Placed.{At, at-next}
 
 pub no-state : (s : ResonanceState) {A : Type 0} → None ≡ Some s → A
 no-state s p = absurd (subst (λ (x : MaybeState). isNone x) p tt)

@@ -13,10 +13,10 @@ use lib.Ieee.Scale.{finite}
 use denote.Floats.{is-true}
 use borrow.Author.Tests.{ltb-true, ltb-false, le-ltb}
 use Rattle.floats.specs.Value.{negative, isZero, atMost, shorter}
-use Rattle.resonance.specs.declared.time.Fault.{Fault}
-use Rattle.resonance.specs.declared.time.Fault.the-variants.{RatesRefused}
-use Rattle.resonance.specs.declared.time.Checked.{Checked}
-use Rattle.resonance.specs.declared.time.Checked.the-variants.{Passed, Refused as refused}
+use Rattle.times.specs.declared.time.Fault.{Fault}
+use Rattle.times.specs.declared.time.Fault.the-variants.{RatesRefused}
+use Rattle.times.specs.declared.time.Checked.{Checked}
+use Rattle.times.specs.declared.time.Checked.the-variants.{Passed, Refused as refused}
 use Rattle.resonance.specs.declared.rates.Integrator.{Integrator}
 use Rattle.resonance.specs.declared.state.ResonanceState.{ResonanceState}
 use Rattle.resonance.specs.declared.state.MaybeState.{MaybeState}
@@ -26,11 +26,11 @@ use Rattle.resonance.specs.declared.advance.Walked.the-variants.{At as w
 use Rattle.resonance.specs.declared.advance.Advanced.{Advanced}
 use Rattle.resonance.specs.declared.advance.Advanced.the-variants.{At, Refused}
 use Rattle.resonance.specs.declared.advance.Replayed.{Replayed}
-use Rattle.resonance.specs.Time.{limit, number, multiple, zeroTime, back, placed, refusal, planned, plan, due}
+use Rattle.times.specs.Time.{limit, number, multiple, zeroTime, back, placed, refusal, planned, plan, due}
 use Rattle.resonance.specs.State.{freshOf, sameState, stepOf}
 use Rattle.resonance.specs.Advance.{andThen, steps, oneMore, made, taken, carriedOut, advanceOf, counted, walkBy, walkOf, agrees, replayOf}
-use Rattle.resonance.proofs.Placed.{At as Stands, at-next, due-is, placed-finite}
-use Rattle.resonance.proofs.Accepted.{accepted, accepted-at, accepted-le, accepted-most}
+use Rattle.times.proofs.Placed.{At as Stands, at-next, due-is, placed-finite}
+use Rattle.times.proofs.Accepted.{accepted, accepted-at, accepted-le, accepted-most}
 use Rattle.resonance.proofs.Steps.{step-time, steps-on, made-on, made-all}
 
 -- ---- before each turn: n steps are made, from s to st

@@ -2,7 +2,7 @@
 use Prim.Native.Nat.{ℕ, zero, suc, _-_}
 use mathlib.Core.Bool.{Bool, false, _&&_, cond}
 use lib.Ieee.{Float}
-use Rattle.resonance.specs.declared.time.Fault.the-variants.{RatesRefused}
+use Rattle.times.specs.declared.time.Fault.the-variants.{RatesRefused}
 use Rattle.resonance.specs.declared.rates.Integrator.{Integrator}
 use Rattle.resonance.specs.declared.state.ResonanceState.{ResonanceState}
 use Rattle.resonance.specs.declared.state.MaybeState.{MaybeState}
@@ -12,7 +12,7 @@ use Rattle.resonance.specs.declared.advance.Walked.the-variants.{At as w
 use Rattle.resonance.specs.declared.advance.Advanced.{Advanced}
 use Rattle.resonance.specs.declared.advance.Advanced.the-variants.{At, Refused}
 use Rattle.resonance.specs.declared.advance.Replayed.{Replayed}
-use Rattle.resonance.specs.Time.{number, back, placed, Plan, refuse, go, plan}
+use Rattle.times.specs.Time.{number, back, placed, Plan, refuse, go, plan}
 use Rattle.resonance.specs.State.{freshOf, sameState, stepOf}
 
 abbrev pub andThen : MaybeState → (ResonanceState → MaybeState) → MaybeState

@@ -18,10 +18,10 @@ use Rattle.orbit.specs.declared.propagator.Constants.{Constants}
 use Rattle.elements.specs.Elements.{finiteQuestion, elementsOf}
 use Rattle.elements.specs.declared.elements.Question.{Question}
 use Rattle.elements.specs.declared.elements.Outcome.{Outcome}
-use Rattle.resonance.specs.declared.time.Fault.{Fault}
-use Rattle.resonance.specs.declared.time.Fault.the-variants.{TimeNotFinite, TimeBeyondLimit, NumberNotFinite, OrbitNonResonant, NoState, RatesRefused}
-use Rattle.resonance.specs.declared.time.Checked.{Checked}
-use Rattle.resonance.specs.declared.time.Checked.the-variants.{Passed, Refused as refusedCheck}
+use Rattle.times.specs.declared.time.Fault.{Fault}
+use Rattle.times.specs.declared.time.Fault.the-variants.{TimeNotFinite, TimeBeyondLimit, NumberNotFinite, OrbitNonResonant, NoState, RatesRefused}
+use Rattle.times.specs.declared.time.Checked.{Checked}
+use Rattle.times.specs.declared.time.Checked.the-variants.{Passed, Refused as refusedCheck}
 use Rattle.resonance.specs.declared.rates.Integrator.{Integrator}
 use Rattle.resonance.specs.declared.rates.Rates.{Rates}
 use Rattle.resonance.specs.declared.rates.Rates.the-variants.{Of as rates, Refused as no-rates}
@@ -34,7 +34,7 @@ use Rattle.resonance.specs.declared.ask.Answer.{Answer}
 use Rattle.resonance.specs.declared.ask.Answer.the-variants.{Refused, Reached}
 use Rattle.resonance.specs.declared.ask.StateAsked.{StateAsked}
 use Rattle.resonance.specs.declared.ask.Asked.{Asked}
-use Rattle.resonance.specs.Time.{limit}
+use Rattle.times.specs.Time.{limit}
 use Rattle.resonance.specs.Rates.{ratesOf}
 use Rattle.resonance.specs.State.{finiteState, integrator}
 use Rattle.resonance.specs.Advance.{advanceOf}

@@ -1,5 +1,4 @@
 pub mod Refusal
-pub mod Time
 pub mod Rates
 pub mod State
 pub mod Advance

@@ -10,7 +10,7 @@ use Rattle.orbit.specs.declared.propagator.Resonance.{Resonance}
 use Rattle.orbit.specs.declared.propagator.Resonant.{Resonant}
 use Rattle.orbit.specs.declared.propagator.Resonant.the-variants.{No, Yes}
 use Rattle.orbit.specs.declared.propagator.Constants.{Constants}
-use Rattle.resonance.specs.declared.time.Fault.the-variants.{NumberNotFinite, OrbitNonResonant, StateMisplaced, RatesRefused}
+use Rattle.times.specs.declared.time.Fault.the-variants.{NumberNotFinite, OrbitNonResonant, StateMisplaced, RatesRefused}
 use Rattle.resonance.specs.declared.rates.Integrator.{Integrator}
 use Rattle.resonance.specs.declared.rates.Rates.{Rates}
 use Rattle.resonance.specs.declared.rates.Rates.the-variants.{Of as rates, Refused as no-rates}
@@ -20,7 +20,7 @@ use Rattle.resonance.specs.declared.state.MaybeState.the-variants.{None,
 use Rattle.resonance.specs.declared.state.TimeAndState.{TimeAndState}
 use Rattle.resonance.specs.declared.state.Stepped.{Stepped}
 use Rattle.resonance.specs.declared.state.Stepped.the-variants.{To, Refused}
-use Rattle.resonance.specs.Time.{zeroTime, delta, placed}
+use Rattle.times.specs.Time.{zeroTime, delta, placed}
 use Rattle.resonance.specs.Rates.{ratesOf}
 
 -- a fresh state has time +0.0, mean motion n and lambda_0

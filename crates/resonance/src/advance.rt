@@ -1,16 +1,16 @@
 // The stepping of an ask to the last state not beyond its time, and the replay of a stored state:
 // the loop of `integrate` in deep_space.rs, with refusals where it panics or does not end.
 ghost use mathlib.Core.Path.{_≡_};
-ghost use Rattle.resonance.specs.Time.{refusal};
+ghost use Rattle.times.specs.Time.{refusal};
 ghost use Rattle.resonance.specs.Advance.{walkOf, advanceOf, replayOf};
 use crate::rates::Integrator;
 use crate::state::MaybeState;
 use crate::state::ResonanceState;
-use crate::time::Checked;
-use crate::time::Fault;
-use crate::time::check_times;
-use crate::time::is_due;
-use crate::time::is_placed;
+use times::time::Checked;
+use times::time::Fault;
+use times::time::check_times;
+use times::time::is_due;
+use times::time::is_placed;
 
 // Where the loop ends: at a state, or before a step that is refused; and the steps made.
 pub enum Walked {

@@ -7,9 +7,6 @@ use crate::rates::Integrator;
 use crate::rates::Rates;
 use crate::state::MaybeState;
 use crate::state::ResonanceState;
-use crate::time::Checked;
-use crate::time::Fault;
-use crate::time::is_within;
 use elements::elements::Outcome;
 use elements::elements::Question;
 use elements::elements::elements_at;
@@ -20,6 +17,9 @@ use orbit::model::TAU;
 use orbit::propagator::Constants;
 use orbit::propagator::Resonance;
 use orbit::propagator::Resonant;
+use times::time::Checked;
+use times::time::Fault;
+use times::time::is_within;
 
 // The answer of an ask.
 pub enum Answer {

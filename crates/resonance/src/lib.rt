@@ -4,4 +4,3 @@ pub mod advance;
 pub mod ask;
 pub mod rates;
 pub mod state;
-pub mod time;

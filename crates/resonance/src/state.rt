@@ -3,13 +3,13 @@ ghost use mathlib.Core.Path.{_≡_};
 ghost use Rattle.resonance.specs.State.{freshOf, fresh, timeAndState, finiteState, sameState, movedBy, stepOf, placedStep, stepped};
 use crate::rates::Integrator;
 use crate::rates::Rates;
-use crate::time::Fault;
-use crate::time::delta_t;
-use crate::time::is_placed;
 use floats::finite::bits_of;
 use floats::finite::is_finite;
 use orbit::propagator::Constants;
 use orbit::propagator::Resonant;
+use times::time::Fault;
+use times::time::delta_t;
+use times::time::is_placed;
 
 // Half the square of Δt = 720 min.
 const HALF_DELTA_T_SQUARED: f64 = 259200.0;

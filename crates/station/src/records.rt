@@ -22,7 +22,7 @@ use floats::finite::magnitude;
 use orbit::propagator::Constants;
 use record::kind_of;
 use resonance::state::MaybeState;
-use resonance::time::is_placed;
+use times::time::is_placed;
 
 // A replay of more than 100,000 steps of 720 minutes is long enough to be told of before it.
 const LONG: f64 = 72000000.0;

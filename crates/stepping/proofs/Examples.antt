@@ -4,7 +4,7 @@ use lib.Ieee.{round, sum, add, sub, neg, lt, le}
 use Rattle.floats.specs.Rounded.{dec}
 use Rattle.orbit.specs.Class.{oneDay, halfDay}
 use Rattle.elements.specs.Elements.{inRange}
-use Rattle.resonance.specs.Time.{refusal, plan, back}
+use Rattle.times.specs.Time.{refusal, plan, back}
 use Rattle.resonance.specs.Advance.{advanceOf}
 use Rattle.stepping.specs.Examples.{Examples}
 

@@ -15,22 +15,22 @@ use lib.Ieee.Scale.{round-same}
 use borrow.Author.Tests.{ltb-true, ltb-false, lt-ltb, le-ltb, ne-eqb}
 use Rattle.floats.specs.Rounded.{_⊕_, _⊖_}
 use Rattle.floats.proofs.Exact.{exact, fits-down, fits-num}
-use Rattle.resonance.specs.declared.time.Fault.{Fault}
-use Rattle.resonance.specs.declared.time.Fault.the-variants.{RatesRefused}
-use Rattle.resonance.specs.declared.time.Checked.{Checked}
-use Rattle.resonance.specs.declared.time.Checked.the-variants.{Passed, Refused as refused}
+use Rattle.times.specs.declared.time.Fault.{Fault}
+use Rattle.times.specs.declared.time.Fault.the-variants.{RatesRefused}
+use Rattle.times.specs.declared.time.Checked.{Checked}
+use Rattle.times.specs.declared.time.Checked.the-variants.{Passed, Refused as refused}
 use Rattle.resonance.specs.declared.rates.Integrator.{Integrator}
 use Rattle.resonance.specs.declared.state.ResonanceState.{ResonanceState}
 use Rattle.resonance.specs.declared.state.MaybeState.{MaybeState}
 use Rattle.resonance.specs.declared.state.MaybeState.the-variants.{None, Some}
 use Rattle.resonance.specs.declared.advance.Advanced.{Advanced}
 use Rattle.resonance.specs.declared.advance.Advanced.the-variants.{At, Refused}
-use Rattle.resonance.specs.Time.{limit, number, timeOf, back, delta, refusal}
+use Rattle.times.specs.Time.{limit, number, timeOf, back, delta, refusal}
 use Rattle.resonance.specs.State.{freshOf, stepOf}
 use Rattle.resonance.specs.Advance.{andThen, steps, oneMore, made, taken}
 use Rattle.stepping.specs.Laws.{ExactStep, ExactTest, ExactRest, Composed, Timed, AllMade, FirstRefused, Reported}
-use Rattle.resonance.proofs.Placed.{signOf, sign-ahead, At as Stands, at-next, due-is, time-is}
-use Rattle.resonance.proofs.Accepted.{accepted-at, accepted-le, accepted-most, number-most, back-sign}
+use Rattle.times.proofs.Placed.{signOf, sign-ahead, At as Stands, at-next, due-is, time-is}
+use Rattle.times.proofs.Accepted.{accepted-at, accepted-le, accepted-most, number-most, back-sign}
 use Rattle.resonance.proofs.Steps.{no-state, steps-compose, made-all, steps-place, steps-keep, step-fits}
 use Rattle.resonance.proofs.Walk.{advance-go, advance-refused}
 

@@ -12,7 +12,7 @@ use Rattle.elements.specs.Elements.{inRange}
 use Rattle.resonance.specs.declared.rates.Integrator.{Integrator}
 use Rattle.resonance.specs.declared.state.ResonanceState.{ResonanceState}
 use Rattle.resonance.specs.Refusal.{ofAdvance}
-use Rattle.resonance.specs.Time.{number, timeOf}
+use Rattle.times.specs.Time.{number, timeOf}
 use Rattle.resonance.specs.Advance.{steps, taken, advanceOf}
 
 -- what an example shows: a refusal by its number; or so many steps, back or not, with the rest of the time

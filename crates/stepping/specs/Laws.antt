@@ -13,7 +13,7 @@ use Rattle.resonance.specs.declared.rates.Integrator.{Integrator}
 use Rattle.resonance.specs.declared.state.ResonanceState.{ResonanceState}
 use Rattle.resonance.specs.declared.state.MaybeState.the-variants.{None, Some}
 use Rattle.resonance.specs.declared.advance.Advanced.the-variants.{At}
-use Rattle.resonance.specs.Time.{limit, number, timeOf, back, delta, due}
+use Rattle.times.specs.Time.{limit, number, timeOf, back, delta, due}
 use Rattle.resonance.specs.State.{freshOf}
 use Rattle.resonance.specs.Advance.{andThen, steps, made, advanceOf}
 

@@ -36,7 +36,7 @@ use resonance::state::MaybeState;
 use resonance::state::ResonanceState;
 use resonance::state::Stepped;
 use resonance::state::initial_state;
-use resonance::time::Fault;
+use times::time::Fault;
 
 // ---- reading a line
 

@@ -5,7 +5,7 @@ use mathlib.Core.Bool.{Bool, true}
 use Rattle.floats.proofs.Values.{failed, passed}
 use Rattle.resonance.specs.declared.advance.Walked.{Walked}
 use Rattle.resonance.specs.declared.state.ResonanceState.{ResonanceState}
-use Rattle.resonance.specs.Time.{placed, refusal}
+use Rattle.times.specs.Time.{placed, refusal}
 use Rattle.resonance.specs.Advance.{walkOf, replayOf}
 use Rattle.resonance.proofs.Walk.{fresh-asked, replay-not, replay-walk, replayFrom}
 use Rattle.resonance.proofs.advance.replay.Statement.{statement}

@@ -2,8 +2,8 @@
 use borrow.Author.Needs.{needs}
 use mathlib.Core.Path.{_≡_, sym, ap, _∙_}
 use Rattle.resonance.specs.declared.advance.Walked.{Walked}
-use Rattle.resonance.specs.declared.time.Checked.the-variants.{Passed}
-use Rattle.resonance.specs.Time.{refusal}
+use Rattle.times.specs.declared.time.Checked.the-variants.{Passed}
+use Rattle.times.specs.Time.{refusal}
 use Rattle.resonance.specs.Advance.{advanceOf}
 use Rattle.resonance.proofs.Walk.{advance-refused, advance-walk, advanceFrom}
 use Rattle.resonance.proofs.state.ResonanceState.advance.Statement.{statement}

@@ -3,7 +3,7 @@ use borrow.Author.Needs.{needs}
 use mathlib.Core.Path.{_≡_, sym, ap, _∙_}
 use mathlib.Core.Bool.{true}
 use Rattle.floats.proofs.Values.{failed, passed}
-use Rattle.resonance.specs.Time.{placed}
+use Rattle.times.specs.Time.{placed}
 use Rattle.resonance.specs.State.{handed, placedStep}
 use Rattle.resonance.specs.declared.state.MaybeState.{MaybeState}
 use Rattle.resonance.proofs.state.ResonanceState.placed_step.Statement.{statement}

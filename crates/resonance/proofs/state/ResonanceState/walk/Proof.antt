@@ -8,7 +8,7 @@ use native.Mathlib.Omega.{arith}
 use denote.Floats.{passes}
 use lib.Dec.{T}
 use lib.Ieee.{ofBits, lt, fits, binary64}
-use Rattle.resonance.specs.Time.{number, back, due}
+use Rattle.times.specs.Time.{number, back, due}
 use Rattle.resonance.proofs.Walk.{Walk, walk-start, walk-more, walk-few, walk-next, walk-stop, walk-end}
 use Rattle.resonance.proofs.state.ResonanceState.walk.Statement.{statement}
 use Rattle.resonance.proofs.state.ResonanceState.walk.Tie as tie

@@ -16,8 +16,8 @@ use Rattle.floats.proofs.Values.{same-le, signedLe, le-values, zero-test}
 use Rattle.floats.proofs.Exact.{exact, Big, rounded-big, not-le-below, above-not-le, big-not-zero, fits-down, fits-num, is-zero, not-lt}
 use Rattle.floats.specs.Rounded.{_⊕_, dec}
 use Rattle.floats.specs.Value.{atMost, negative, isZero}
-use Rattle.resonance.specs.declared.time.Ordering.the-variants.{Less, Equal, Greater}
-use Rattle.resonance.specs.Time.{limit, number, multiple, placed, back, ordering, goesOn, due, delta, timeOf}
+use Rattle.times.specs.declared.time.Ordering.the-variants.{Less, Equal, Greater}
+use Rattle.times.specs.Time.{limit, number, multiple, placed, back, ordering, goesOn, due, delta, timeOf}
 
 -- ---- a multiple of 720, by the remainder
 pub multiple-is : (x : Float) → T (fits binary64 x) → eq (rem binary64 x (fin false 45 (pos 4))) (fin false 0 (pos 0)) ≡ multiple x

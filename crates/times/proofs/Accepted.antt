@@ -12,14 +12,14 @@ use lib.Ieee.Fits.{up-pos, down-pos, eq→eqb, and-l, and-r}
 use lib.Ieee.Nearest.{div-mono}
 use lib.Ieee.Positive.{first-pos}
 use borrow.Author.Tests.{lt-ltb, ne-eqb}
-use Rattle.resonance.proofs.Placed.{signOf, At, placed-finite}
+use Rattle.times.proofs.Placed.{signOf, At, placed-finite}
 use lib.Ieee.Scale.{finite}
 use Rattle.floats.specs.Value.{atMost, shorter}
-use Rattle.resonance.specs.declared.time.Fault.{Fault}
-use Rattle.resonance.specs.declared.time.Fault.the-variants.{TimeNotFinite, TimeBeyondLimit, StateMisplaced, NotOnward}
-use Rattle.resonance.specs.declared.time.Checked.{Checked}
-use Rattle.resonance.specs.declared.time.Checked.the-variants.{Passed, Refused}
-use Rattle.resonance.specs.Time.{limit, number, multiple, placed, sameWay, notEarlier, onward, back, refusal}
+use Rattle.times.specs.declared.time.Fault.{Fault}
+use Rattle.times.specs.declared.time.Fault.the-variants.{TimeNotFinite, TimeBeyondLimit, StateMisplaced, NotOnward}
+use Rattle.times.specs.declared.time.Checked.{Checked}
+use Rattle.times.specs.declared.time.Checked.the-variants.{Passed, Refused}
+use Rattle.times.specs.Time.{limit, number, multiple, placed, sameWay, notEarlier, onward, back, refusal}
 
 pub record Accepted (s t : Float) : Type 0 where
   pub near : T (atMost limit t)

@@ -1,10 +1,10 @@
--- `resonance::time::is_same_way` meets its contract: a zero by the comparison, the sign bits by their function. Assumes nothing.
+-- `times::time::is_same_way` meets its contract: a zero by the comparison, the sign bits by their function. Assumes nothing.
 use mathlib.Core.Path.{ap₂}
 use mathlib.Core.Bool.{Bool, Bool·beq, _||_}
 use lib.Ieee.{ofBits}
 use Rattle.floats.proofs.Exact.{is-zero}
-use Rattle.resonance.proofs.time.is_same_way.Statement.{statement}
-use Rattle.resonance.proofs.time.is_same_way.Tie as tie
+use Rattle.times.proofs.time.is_same_way.Statement.{statement}
+use Rattle.times.proofs.time.is_same_way.Tie as tie
 
 returns : tie.Need-returns
 unfolding ofBits

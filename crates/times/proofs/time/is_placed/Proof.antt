@@ -1,11 +1,11 @@
--- `resonance::time::is_placed` meets its contract: a zero remainder is a multiple, and a zero with a sign bit is -0.0. Assumes nothing.
+-- `times::time::is_placed` meets its contract: a zero remainder is a multiple, and a zero with a sign bit is -0.0. Assumes nothing.
 use mathlib.Core.Path.{ap, ap₂}
 use mathlib.Core.Bool.{Bool, not, _&&_}
 use denote.Floats.{passes}
 use lib.Ieee.{ofBits, fits, binary64}
-use Rattle.resonance.proofs.Placed.{multiple-is, minus-zero}
-use Rattle.resonance.proofs.time.is_placed.Statement.{statement}
-use Rattle.resonance.proofs.time.is_placed.Tie as tie
+use Rattle.times.proofs.Placed.{multiple-is, minus-zero}
+use Rattle.times.proofs.time.is_placed.Statement.{statement}
+use Rattle.times.proofs.time.is_placed.Tie as tie
 
 returns : tie.Need-returns
 unfolding ofBits

@@ -1,6 +1,6 @@
--- `resonance::time::compare` meets its contract: each answer is the case that the two comparisons pick. Assumes nothing.
-use Rattle.resonance.proofs.time.compare.Statement.{statement}
-use Rattle.resonance.proofs.time.compare.Tie as tie
+-- `times::time::compare` meets its contract: each answer is the case that the two comparisons pick. Assumes nothing.
+use Rattle.times.proofs.time.compare.Statement.{statement}
+use Rattle.times.proofs.time.compare.Tie as tie
 
 returns : tie.Need-returns
 returns c = simp (c .if1 .taken)

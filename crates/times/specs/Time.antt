@@ -8,12 +8,12 @@ use lib.Ieee.{Float, nan, inf, fin, binary64, up, down, round, lt}
 use lib.Ieee.Scale.{finite}
 use Rattle.floats.specs.Rounded.{_⊖_, ⊝_, dec}
 use Rattle.floats.specs.Value.{negative, isZero, atMost, shorter}
-use Rattle.resonance.specs.declared.time.Fault.{Fault}
-use Rattle.resonance.specs.declared.time.Fault.the-variants.{TimeNotFinite, TimeBeyondLimit, StateMisplaced, NotOnward}
-use Rattle.resonance.specs.declared.time.Checked.{Checked}
-use Rattle.resonance.specs.declared.time.Checked.the-variants.{Passed, Refused}
-use Rattle.resonance.specs.declared.time.Ordering.{Ordering}
-use Rattle.resonance.specs.declared.time.Ordering.the-variants.{Less, Equal, Greater}
+use Rattle.times.specs.declared.time.Fault.{Fault}
+use Rattle.times.specs.declared.time.Fault.the-variants.{TimeNotFinite, TimeBeyondLimit, StateMisplaced, NotOnward}
+use Rattle.times.specs.declared.time.Checked.{Checked}
+use Rattle.times.specs.declared.time.Checked.the-variants.{Passed, Refused}
+use Rattle.times.specs.declared.time.Ordering.{Ordering}
+use Rattle.times.specs.declared.time.Ordering.the-variants.{Less, Equal, Greater}
 
 -- 720·2^20 minutes
 abbrev pub limit : ℕ

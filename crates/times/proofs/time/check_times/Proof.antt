@@ -1,14 +1,14 @@
--- `resonance::time::check_times` meets its contract: each test is what its callee says. Assumes nothing.
+-- `times::time::check_times` meets its contract: each test is what its callee says. Assumes nothing.
 use mathlib.Core.Path.{_≡_, sym, subst, ap₂}
 use mathlib.Core.Bool.{Bool, true, false, _&&_}
 use lib.Dec.{T}
 use lib.Ieee.Scale.{finite}
 use Rattle.floats.specs.Value.{atMost}
 use Rattle.floats.proofs.Values.{failed, passed}
-use Rattle.resonance.specs.Time.{limit, placed, onward, refusal}
-use Rattle.resonance.proofs.Placed.{placed-finite}
-use Rattle.resonance.proofs.time.check_times.Statement.{statement}
-use Rattle.resonance.proofs.time.check_times.Tie as tie
+use Rattle.times.specs.Time.{limit, placed, onward, refusal}
+use Rattle.times.proofs.Placed.{placed-finite}
+use Rattle.times.proofs.time.check_times.Statement.{statement}
+use Rattle.times.proofs.time.check_times.Tie as tie
 
 -- what has passed by the second, the third and the fourth test
 fine : (c : tie.Else1) → finite (c .before .before .args .t) ≡ true

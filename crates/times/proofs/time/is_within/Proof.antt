@@ -1,9 +1,9 @@
--- `resonance::time::is_within` meets its contract: two comparisons with ±720·2^20. Assumes nothing.
+-- `times::time::is_within` meets its contract: two comparisons with ±720·2^20. Assumes nothing.
 use mathlib.Core.Path.{refl}
 use lib.Ieee.{ofBits, neg}
 use Rattle.floats.proofs.Values.{between}
-use Rattle.resonance.proofs.time.is_within.Statement.{statement}
-use Rattle.resonance.proofs.time.is_within.Tie as tie
+use Rattle.times.proofs.time.is_within.Statement.{statement}
+use Rattle.times.proofs.time.is_within.Tie as tie
 
 returns : tie.Need-returns
 unfolding ofBits neg

@@ -1,12 +1,12 @@
--- `resonance::time::is_due` meets its contract: each arm is the case of the comparison. Assumes nothing.
+-- `times::time::is_due` meets its contract: each arm is the case of the comparison. Assumes nothing.
 use borrow.Author.Needs.{needs}
 use mathlib.Core.Path.{_≡_, sym, ap, _∙_}
 use lib.Ieee.{Float}
 use Rattle.floats.specs.Rounded.{_⊖_}
-use Rattle.resonance.specs.declared.time.Ordering.{Ordering}
-use Rattle.resonance.specs.Time.{ordering, goesOn, due}
-use Rattle.resonance.proofs.time.is_due.Statement.{statement}
-use Rattle.resonance.proofs.time.is_due.Tie as tie
+use Rattle.times.specs.declared.time.Ordering.{Ordering}
+use Rattle.times.specs.Time.{ordering, goesOn, due}
+use Rattle.times.proofs.time.is_due.Statement.{statement}
+use Rattle.times.proofs.time.is_due.Tie as tie
 
 -- by the result of the comparison
 whole : (c : tie.After-compare) → goesOn (c .before .before .args .back) (c .compare .result) ≡ due (c .before .before .args .back) (c .before .before .args .s) (c .before .before .args .t)

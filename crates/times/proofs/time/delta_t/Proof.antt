@@ -1,9 +1,9 @@
--- `resonance::time::delta_t` meets its contract. Assumes nothing.
+-- `times::time::delta_t` meets its contract. Assumes nothing.
 use lib.Ieee.{ofBits, round, neg}
 use Rattle.floats.specs.Rounded.{dec}
-use Rattle.resonance.specs.Time.{delta}
-use Rattle.resonance.proofs.time.delta_t.Statement.{statement}
-use Rattle.resonance.proofs.time.delta_t.Tie as tie
+use Rattle.times.specs.Time.{delta}
+use Rattle.times.proofs.time.delta_t.Statement.{statement}
+use Rattle.times.proofs.time.delta_t.Tie as tie
 
 returns : tie.Need-returns
 unfolding delta dec ofBits round neg

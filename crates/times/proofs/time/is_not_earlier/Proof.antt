@@ -1,9 +1,9 @@
--- `resonance::time::is_not_earlier` meets its contract: the order of the magnitudes is that of the sizes. Assumes nothing.
+-- `times::time::is_not_earlier` meets its contract: the order of the magnitudes is that of the sizes. Assumes nothing.
 use mathlib.Core.Path.{ap₂, _∙_}
 use lib.Ieee.{Float, le}
 use Rattle.floats.proofs.Exact.{sizes}
-use Rattle.resonance.proofs.time.is_not_earlier.Statement.{statement}
-use Rattle.resonance.proofs.time.is_not_earlier.Tie as tie
+use Rattle.times.proofs.time.is_not_earlier.Statement.{statement}
+use Rattle.times.proofs.time.is_not_earlier.Tie as tie
 
 returns : tie.Need-returns
 returns c =
