@@ -4,11 +4,11 @@ ghost use Rattle.body.specs.Examine.{ofItsClass, finiteHeld, replayed, e
 use orbit::class::class_of;
 use orbit::propagator::Constants;
 use orbit::propagator::Resonant;
+use rates::Integrator;
 use record::kind_of;
 use record::kind_of_class;
 use resonance::advance::Replayed;
 use resonance::advance::replay;
-use resonance::rates::Integrator;
 use resonance::state::MaybeState;
 
 // A record that was examined.

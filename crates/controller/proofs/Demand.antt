@@ -19,7 +19,7 @@ use Rattle.elements.specs.declared.elements.Outcome.{Outcome}
 use Rattle.times.specs.declared.time.Fault.{Fault}
 use Rattle.times.specs.declared.time.Checked.{Checked}
 use Rattle.times.specs.declared.time.Checked.the-variants.{Passed, Refused as refusedCheck}
-use Rattle.resonance.specs.declared.rates.Integrator.{Integrator}
+use Rattle.rates.specs.declared.Integrator.{Integrator}
 use Rattle.resonance.specs.declared.state.ResonanceState.{ResonanceState}
 use Rattle.resonance.specs.declared.state.MaybeState.{MaybeState}
 use Rattle.resonance.specs.declared.state.MaybeState.the-variants.{None, Some}

@@ -9,7 +9,7 @@ use Rattle.orbit.specs.declared.propagator.Constants.{Constants}
 use Rattle.elements.specs.declared.elements.Question.{Question}
 use Rattle.elements.specs.declared.elements.Outcome.{Outcome}
 use Rattle.times.specs.declared.time.Fault.the-variants.{NotOnward}
-use Rattle.resonance.specs.declared.rates.Integrator.{Integrator}
+use Rattle.rates.specs.declared.Integrator.{Integrator}
 use Rattle.resonance.specs.declared.state.ResonanceState.{ResonanceState}
 use Rattle.resonance.specs.declared.state.MaybeState.the-variants.{Some}
 use Rattle.resonance.specs.declared.ask.Answer.the-variants.{Refused, Reached}

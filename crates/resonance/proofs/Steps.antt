@@ -8,9 +8,9 @@ use lib.Dec.{T}
 use lib.Ieee.{Float, binary64, fits}
 use lib.Ieee.Fits.{add-fits}
 use Rattle.floats.specs.Rounded.{_⊕_}
-use Rattle.resonance.specs.declared.rates.Integrator.{Integrator}
-use Rattle.resonance.specs.declared.rates.Rates.{Rates}
-use Rattle.resonance.specs.declared.rates.Rates.the-variants.{Of as rates, Refused as no-rates}
+use Rattle.rates.specs.declared.Integrator.{Integrator}
+use Rattle.rates.specs.declared.Rates.{Rates}
+use Rattle.rates.specs.declared.Rates.the-variants.{Of as rates, Refused as no-rates}
 use Rattle.resonance.specs.declared.state.ResonanceState.{ResonanceState}
 use Rattle.resonance.specs.declared.state.MaybeState.{MaybeState}
 use Rattle.resonance.specs.declared.state.MaybeState.the-variants.{None, Some}

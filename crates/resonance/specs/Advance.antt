@@ -3,7 +3,7 @@ use Prim.Native.Nat.{ℕ, zero, suc, _-_}
 use mathlib.Core.Bool.{Bool, false, _&&_, cond}
 use lib.Ieee.{Float}
 use Rattle.times.specs.declared.time.Fault.the-variants.{RatesRefused}
-use Rattle.resonance.specs.declared.rates.Integrator.{Integrator}
+use Rattle.rates.specs.declared.Integrator.{Integrator}
 use Rattle.resonance.specs.declared.state.ResonanceState.{ResonanceState}
 use Rattle.resonance.specs.declared.state.MaybeState.{MaybeState}
 use Rattle.resonance.specs.declared.state.MaybeState.the-variants.{None, Some}

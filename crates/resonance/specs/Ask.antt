@@ -22,9 +22,9 @@ use Rattle.times.specs.declared.time.Fault.{Fault}
 use Rattle.times.specs.declared.time.Fault.the-variants.{TimeNotFinite, TimeBeyondLimit, NumberNotFinite, OrbitNonResonant, NoState, RatesRefused}
 use Rattle.times.specs.declared.time.Checked.{Checked}
 use Rattle.times.specs.declared.time.Checked.the-variants.{Passed, Refused as refusedCheck}
-use Rattle.resonance.specs.declared.rates.Integrator.{Integrator}
-use Rattle.resonance.specs.declared.rates.Rates.{Rates}
-use Rattle.resonance.specs.declared.rates.Rates.the-variants.{Of as rates, Refused as no-rates}
+use Rattle.rates.specs.declared.Integrator.{Integrator}
+use Rattle.rates.specs.declared.Rates.{Rates}
+use Rattle.rates.specs.declared.Rates.the-variants.{Of as rates, Refused as no-rates}
 use Rattle.resonance.specs.declared.state.ResonanceState.{ResonanceState}
 use Rattle.resonance.specs.declared.state.MaybeState.{MaybeState}
 use Rattle.resonance.specs.declared.state.MaybeState.the-variants.{None, Some}

@@ -1,8 +1,8 @@
 -- Document 01's number of an answer of the integrator: 0 where it is no refusal. Definitions only. Assumes nothing.
 use Prim.Native.Nat.{ℕ}
 use Rattle.times.specs.Refusal.{number}
-use Rattle.resonance.specs.declared.rates.Rates.{Rates}
-use Rattle.resonance.specs.declared.rates.Rates.the-variants.{Of as rates, Refused as no-rates}
+use Rattle.rates.specs.declared.Rates.{Rates}
+use Rattle.rates.specs.declared.Rates.the-variants.{Of as rates, Refused as no-rates}
 use Rattle.resonance.specs.declared.state.Stepped.{Stepped}
 use Rattle.resonance.specs.declared.state.Stepped.the-variants.{To as to, Refused as refusedStep}
 use Rattle.resonance.specs.declared.advance.Advanced.{Advanced}

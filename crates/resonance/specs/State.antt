@@ -11,9 +11,9 @@ use Rattle.orbit.specs.declared.propagator.Resonant.{Resonant}
 use Rattle.orbit.specs.declared.propagator.Resonant.the-variants.{No, Yes}
 use Rattle.orbit.specs.declared.propagator.Constants.{Constants}
 use Rattle.times.specs.declared.time.Fault.the-variants.{NumberNotFinite, OrbitNonResonant, StateMisplaced, RatesRefused}
-use Rattle.resonance.specs.declared.rates.Integrator.{Integrator}
-use Rattle.resonance.specs.declared.rates.Rates.{Rates}
-use Rattle.resonance.specs.declared.rates.Rates.the-variants.{Of as rates, Refused as no-rates}
+use Rattle.rates.specs.declared.Integrator.{Integrator}
+use Rattle.rates.specs.declared.Rates.{Rates}
+use Rattle.rates.specs.declared.Rates.the-variants.{Of as rates, Refused as no-rates}
 use Rattle.resonance.specs.declared.state.ResonanceState.{ResonanceState}
 use Rattle.resonance.specs.declared.state.MaybeState.{MaybeState}
 use Rattle.resonance.specs.declared.state.MaybeState.the-variants.{None, Some}

@@ -3,9 +3,9 @@
 ghost use mathlib.Core.Path.{_≡_};
 ghost use Rattle.times.specs.Time.{refusal};
 ghost use Rattle.resonance.specs.Advance.{walkOf, advanceOf, replayOf};
-use crate::rates::Integrator;
 use crate::state::MaybeState;
 use crate::state::ResonanceState;
+use rates::Integrator;
 use times::time::Checked;
 use times::time::Fault;
 use times::time::check_times;

@@ -3,8 +3,6 @@
 ghost use mathlib.Core.Path.{_≡_};
 ghost use Rattle.resonance.specs.Ask.{thetaAt, baseOf, p29Of, nodeOf, numbersRefusal, givenBack, reachedBy, resonantAsk, kindAsk, stateAskOf, asked, plainP29, plainAsk, noneAskOf, askOf};
 use crate::advance::Advanced;
-use crate::rates::Integrator;
-use crate::rates::Rates;
 use crate::state::MaybeState;
 use crate::state::ResonanceState;
 use elements::elements::Outcome;
@@ -17,6 +15,8 @@ use orbit::model::TAU;
 use orbit::propagator::Constants;
 use orbit::propagator::Resonance;
 use orbit::propagator::Resonant;
+use rates::Integrator;
+use rates::Rates;
 use times::time::Checked;
 use times::time::Fault;
 use times::time::is_within;

@@ -2,5 +2,4 @@
 // the stepping of an ask.
 pub mod advance;
 pub mod ask;
-pub mod rates;
 pub mod state;

@@ -1,12 +1,16 @@
 // The state of the resonance integrator and its step: `ResonanceState` of deep_space.rs, by value.
 ghost use mathlib.Core.Path.{_≡_};
+ghost use Rattle.resonance.specs.Rates.{ratesOf};
 ghost use Rattle.resonance.specs.State.{freshOf, fresh, timeAndState, finiteState, sameState, movedBy, stepOf, placedStep, stepped};
-use crate::rates::Integrator;
-use crate::rates::Rates;
 use floats::finite::bits_of;
 use floats::finite::is_finite;
 use orbit::propagator::Constants;
+use orbit::propagator::Resonance;
 use orbit::propagator::Resonant;
+use rates::Integrator;
+use rates::Rates;
+use rates::half_day;
+use rates::one_day;
 use times::time::Fault;
 use times::time::delta_t;
 use times::time::is_placed;
@@ -75,6 +79,49 @@ impl ResonanceState {
         (bits_of(self.t) == bits_of(other.t))
             & (bits_of(self.mean_motion) == bits_of(other.mean_motion))
             & (bits_of(self.lambda) == bits_of(other.lambda))
+    }
+
+    // The rates of this state.
+    pub fn rates(self, c: Integrator) -> Rates
+        ensures { λ r. ⌜ r ≡ ratesOf c self ⌝ }
+    {
+        // λ̇ᵢ = nᵢ + λ̇₀
+        let lambda_dot = self.mean_motion + c.lambda_dot_0;
+        let resonance = c.resonance;
+        match resonance {
+            Resonance::OneDay { dr1, dr2, dr3 } => one_day(self.lambda, lambda_dot, dr1, dr2, dr3),
+            Resonance::HalfDay {
+                d2201,
+                d2211,
+                d3210,
+                d3222,
+                d4410,
+                d4422,
+                d5220,
+                d5232,
+                d5421,
+                d5433,
+                k14,
+            } => {
+                // ωᵢ = ω₀ + k₁₄ tᵢ (the Rust's comment has ω̇, which k₁₄ is not)
+                let w = c.argument_of_perigee_0 + k14 * self.t;
+                half_day(
+                    w,
+                    self.lambda,
+                    lambda_dot,
+                    d2201,
+                    d2211,
+                    d3210,
+                    d3222,
+                    d4410,
+                    d4422,
+                    d5220,
+                    d5232,
+                    d5421,
+                    d5433,
+                )
+            }
+        }
     }
 
     // tᵢ₊₁ = tᵢ + Δt, nᵢ₊₁ = nᵢ + (ṅᵢ Δt + n̈ᵢ (Δt² / 2)), λᵢ₊₁ = λᵢ + (λ̇ᵢ Δt + ṅᵢ (Δt² / 2)), where all

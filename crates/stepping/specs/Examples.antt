@@ -9,7 +9,7 @@ use Rattle.orbit.specs.Class.{classOf}
 use Rattle.orbit.specs.declared.class.Class.{Class}
 use Rattle.orbit.specs.declared.class.Class.the-variants.{NonResonant, HalfDay}
 use Rattle.elements.specs.Elements.{inRange}
-use Rattle.resonance.specs.declared.rates.Integrator.{Integrator}
+use Rattle.rates.specs.declared.Integrator.{Integrator}
 use Rattle.resonance.specs.declared.state.ResonanceState.{ResonanceState}
 use Rattle.resonance.specs.Refusal.{ofAdvance}
 use Rattle.times.specs.Time.{number, timeOf}

@@ -9,7 +9,7 @@ use lib.Ieee.{Float, fin, binary64, up, down, fits}
 use lib.Ieee.Exact.{HasValue}
 use Rattle.floats.specs.Rounded.{_⊕_, _⊖_}
 use Rattle.floats.specs.Value.{atMost}
-use Rattle.resonance.specs.declared.rates.Integrator.{Integrator}
+use Rattle.rates.specs.declared.Integrator.{Integrator}
 use Rattle.resonance.specs.declared.state.ResonanceState.{ResonanceState}
 use Rattle.resonance.specs.declared.state.MaybeState.the-variants.{None, Some}
 use Rattle.resonance.specs.declared.advance.Advanced.the-variants.{At}

@@ -3,7 +3,7 @@ use borrow.Author.Needs.{needs}
 use mathlib.Core.Path.{_≡_, sym, ap, _∙_}
 use lib.Ieee.{Float}
 use Rattle.resonance.specs.State.{movedBy, stepBy, stepOf}
-use Rattle.resonance.specs.declared.rates.Rates.{Rates}
+use Rattle.rates.specs.declared.Rates.{Rates}
 use Rattle.resonance.proofs.state.ResonanceState.next.Statement.{statement}
 use Rattle.resonance.proofs.state.ResonanceState.next.Tie as tie
 

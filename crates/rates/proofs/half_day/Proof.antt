@@ -1,11 +1,11 @@
--- `resonance::rates::half_day` meets its contract: the sums are the definition's, and each wave is its angle's. Assumes nothing.
+-- `rates::half_day` meets its contract: the sums are the definition's, and each wave is its angle's. Assumes nothing.
 use mathlib.Core.Path.{_≡_, _∙_}
 use lib.Ieee.{Float, ofBits, round}
 use Rattle.floats.specs.Rounded.{dec}
 use Rattle.floats.specs.declared.trig.Wave.{Wave}
-use Rattle.resonance.specs.Rates.{g22, g32, g44, g52, g54, halfDayFrom}
-use Rattle.resonance.proofs.rates.half_day.Statement.{statement}
-use Rattle.resonance.proofs.rates.half_day.Tie as tie
+use Rattle.rates.specs.Rates.{g22, g32, g44, g52, g54, halfDayFrom}
+use Rattle.rates.proofs.half_day.Statement.{statement}
+use Rattle.rates.proofs.half_day.Tie as tie
 
 same : (l d2201 d2211 d3210 d3222 d4410 d4422 d5220 d5232 d5421 d5433 : Float) (a0 a1 a2 a3 a4 a5 a6 a7 a8 a9 b0 b1 b2 b3 b4 b5 b6 b7 b8 b9 : Wave)
     → a0 ≡ b0 → a1 ≡ b1 → a2 ≡ b2 → a3 ≡ b3 → a4 ≡ b4 → a5 ≡ b5 → a6 ≡ b6 → a7 ≡ b7 → a8 ≡ b8 → a9 ≡ b9

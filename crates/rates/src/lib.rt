@@ -1,7 +1,6 @@
-// The rates of a state: λ̇ᵢ, ṅᵢ and n̈ᵢ of `integrate` in deep_space.rs, for both resonances.
+// The rates λ̇ᵢ, ṅᵢ and n̈ᵢ of `integrate` in deep_space.rs, for both resonances, from the angles that they take.
 ghost use mathlib.Core.Path.{_≡_};
-ghost use Rattle.resonance.specs.Rates.{checkedRates, oneDay, halfDay, ratesOf};
-use crate::state::ResonanceState;
+ghost use Rattle.rates.specs.Rates.{checkedRates, oneDay, halfDay};
 use floats::finite::is_finite;
 use floats::trig::sines;
 use orbit::propagator::Resonance;
@@ -64,7 +63,7 @@ fn checked(ok: bool, ni_dot: f64, ni_ddot: f64, lambda_dot: f64) -> Rates
 // ṅᵢ = 𝛿ᵣ₁ sin(λᵢ - λ₃₁) + 𝛿ᵣ₂ sin(2 (λᵢ - λ₂₂)) + 𝛿ᵣ₃ sin(3 (λᵢ - λ₃₃))
 // n̈ᵢ = (𝛿ᵣ₁ cos(λᵢ - λ₃₁) + 2 𝛿ᵣ₂ cos(2 (λᵢ - λ₂₂)) + 3 𝛿ᵣ₃ cos(3 (λᵢ - λ₃₃))) λ̇ᵢ
 // (the Rust's comment lacks the factors 2 and 3)
-fn one_day(lambda: f64, lambda_dot: f64, dr1: f64, dr2: f64, dr3: f64) -> Rates
+pub fn one_day(lambda: f64, lambda_dot: f64, dr1: f64, dr2: f64, dr3: f64) -> Rates
     ensures { λ r. ⌜ r ≡ oneDay lambda «lambda_dot» dr1 dr2 dr3 ⌝ }
 {
     let a1 = sines(lambda - LAMBDA31);
@@ -82,7 +81,7 @@ fn one_day(lambda: f64, lambda_dot: f64, dr1: f64, dr2: f64, dr3: f64) -> Rates
 // n̈ᵢ = (Σ₍ₗₘₚₖ₎ m / 2 Dₗₘₚₖ cos((l - 2 p) ωᵢ + m / 2 λᵢ - Gₗₘ)) λ̇ᵢ
 // (l, m, p, k) ∈ {(2, 2, 0, -1), (2, 2, 1, 1), (3, 2, 1, 0), (3, 2, 2, 2), (4, 4, 1, 0),
 //     (4, 4, 2, 2), (5, 2, 2, 0), (5, 2, 3, 2), (5, 4, 2, 1), (5, 4, 3, 3)}
-fn half_day(
+pub fn half_day(
     w: f64,
     lambda: f64,
     lambda_dot: f64,
@@ -138,49 +137,4 @@ fn half_day(
         + 2.0 * (d4410 * a4410.cos + d4422 * a4422.cos + d5421 * a5421.cos + d5433 * a5433.cos))
         * lambda_dot;
     checked(ok, ni_dot, ni_ddot, lambda_dot)
-}
-
-impl ResonanceState {
-    // The rates of this state.
-    pub fn rates(self, c: Integrator) -> Rates
-        ensures { λ r. ⌜ r ≡ ratesOf c self ⌝ }
-    {
-        // λ̇ᵢ = nᵢ + λ̇₀
-        let lambda_dot = self.mean_motion + c.lambda_dot_0;
-        let resonance = c.resonance;
-        match resonance {
-            Resonance::OneDay { dr1, dr2, dr3 } => one_day(self.lambda, lambda_dot, dr1, dr2, dr3),
-            Resonance::HalfDay {
-                d2201,
-                d2211,
-                d3210,
-                d3222,
-                d4410,
-                d4422,
-                d5220,
-                d5232,
-                d5421,
-                d5433,
-                k14,
-            } => {
-                // ωᵢ = ω₀ + k₁₄ tᵢ (the Rust's comment has ω̇, which k₁₄ is not)
-                let w = c.argument_of_perigee_0 + k14 * self.t;
-                half_day(
-                    w,
-                    self.lambda,
-                    lambda_dot,
-                    d2201,
-                    d2211,
-                    d3210,
-                    d3222,
-                    d4410,
-                    d4422,
-                    d5220,
-                    d5232,
-                    d5421,
-                    d5433,
-                )
-            }
-        }
-    }
 }

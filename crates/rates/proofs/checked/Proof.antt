@@ -1,10 +1,10 @@
--- `resonance::rates::checked` meets its contract: the four tests together are the definition's. Assumes nothing.
+-- `rates::checked` meets its contract: the four tests together are the definition's. Assumes nothing.
 use mathlib.Core.Path.{_≡_, sym, ap₂, _∙_}
 use mathlib.Core.Bool.{Bool, _&&_}
 use lib.Ieee.Scale.{finite}
-use Rattle.resonance.specs.Rates.{checkedRates}
-use Rattle.resonance.proofs.rates.checked.Statement.{statement}
-use Rattle.resonance.proofs.rates.checked.Tie as tie
+use Rattle.rates.specs.Rates.{checkedRates}
+use Rattle.rates.proofs.checked.Statement.{statement}
+use Rattle.rates.proofs.checked.Tie as tie
 
 test : (c : tie.After-is-finite3)
     → let a = c .before .before .before .args in

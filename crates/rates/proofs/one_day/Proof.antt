@@ -1,11 +1,11 @@
--- `resonance::rates::one_day` meets its contract: the sums are the definition's, and each wave is its angle's. Assumes nothing.
+-- `rates::one_day` meets its contract: the sums are the definition's, and each wave is its angle's. Assumes nothing.
 use mathlib.Core.Path.{_≡_, _∙_}
 use lib.Ieee.{Float, ofBits, round}
 use Rattle.floats.specs.Rounded.{dec}
 use Rattle.floats.specs.declared.trig.Wave.{Wave}
-use Rattle.resonance.specs.Rates.{lambda31, lambda22, lambda33, oneDayFrom}
-use Rattle.resonance.proofs.rates.one_day.Statement.{statement}
-use Rattle.resonance.proofs.rates.one_day.Tie as tie
+use Rattle.rates.specs.Rates.{lambda31, lambda22, lambda33, oneDayFrom}
+use Rattle.rates.proofs.one_day.Statement.{statement}
+use Rattle.rates.proofs.one_day.Tie as tie
 
 same : (l d1 d2 d3 : Float) (a1 a2 a3 b1 b2 b3 : Wave) → a1 ≡ b1 → a2 ≡ b2 → a3 ≡ b3 → oneDayFrom l d1 d2 d3 a1 a2 a3 ≡ oneDayFrom l d1 d2 d3 b1 b2 b3
 same l d1 d2 d3 a1 a2 a3 b1 b2 b3 p1 p2 p3 = cc
