@@ -1,4 +1,4 @@
--- `resonance::rates::rates` meets its contract: each arm is the case of the resonance. Assumes nothing.
+-- `resonance::state::ResonanceState::rates` meets its contract: each arm is the case of the resonance. Assumes nothing.
 use borrow.Author.Needs.{needs}
 use mathlib.Core.Path.{sym, ap, _∙_}
 use Rattle.floats.specs.Rounded.{_⊕_}
