@@ -14,7 +14,7 @@ use resonance::state::MaybeState;
 use resonance::state::ResonanceState;
 
 // Where the state of a body begins, or its end where it has none.
-fn state_start(kind: u32) -> usize
+pub fn state_start(kind: u32) -> usize
     ensures { λ r. ⌜ r ≡ stateStart kind ⌝ }
 {
     NUMBERS + 8 * number_count(kind)

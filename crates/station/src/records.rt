@@ -12,6 +12,7 @@ use body::examine::Body;
 use body::floats_at::f64_at;
 use body::read::is_shaped;
 use body::read::read_body;
+use body::read::state_start;
 use contents::find::Counted;
 use contents::find::Found;
 use contents::find::Listed;
@@ -97,9 +98,8 @@ pub fn put_record(c: Constants, state: MaybeState, steps: u32) {
     put(OUT, b"\n");
 }
 
-// Where the time of a body's state stands.
-fn time_at(kind: u8) -> usize {
-    if kind == 1 { 216 } else { 280 }
+fn wide(kind: u8) -> u32 {
+    kind as u32
 }
 
 // The time of a body's state, and 0 where it has none or is out of shape.
@@ -114,7 +114,7 @@ fn time_of(body: &[u8]) -> f64 {
     if kind == 0 {
         return 0.0;
     }
-    f64_at(body, time_at(kind))
+    f64_at(body, state_start(wide(kind)))
 }
 
 // Says that a record's replay is long, before it is made.

@@ -1,4 +1,7 @@
 // Where words go: answers to standard output, and what went wrong to standard error.
+ghost use Prim.Native.Nat.{_≤_};
+ghost use lib.ListN.{length};
+use bytes::scan::find;
 
 pub const OUT: i32 = libc::STDOUT_FILENO;
 
@@ -35,7 +38,9 @@ pub fn span(s: &[u8], at: usize, size: usize) -> &[u8] {
 }
 
 // Where line n of a text begins, the first being 1, or the text's end.
-fn line_start(text: &[u8], n: u32) -> usize {
+fn line_start(text: &[u8], n: u32) -> usize
+    ensures { λ r. ⌜ r ≤ length (now (text .entry)) ⌝ }
+{
     let mut left = n;
     let mut i: usize = 0;
     while i < text.len() {
@@ -50,21 +55,10 @@ fn line_start(text: &[u8], n: u32) -> usize {
     i
 }
 
-// Where the line ends that has the place `from`.
-fn line_end(text: &[u8], from: usize) -> usize {
-    let mut i = from;
-    while i < text.len() {
-        if text[i] == b'\n' {
-            return i;
-        }
-        i += 1;
-    }
-    i
-}
-
 fn put_line(fd: i32, text: &[u8], n: u32) {
     let begin = line_start(text, n);
-    put(fd, part(text, begin, line_end(text, begin)));
+    let end = find(text, begin, text.len(), b'\n');
+    put(fd, part(text, begin, end));
 }
 
 // What a refusal's number means: its line here.
