@@ -243,7 +243,7 @@ module _ (c : Constants) (lambda-0 lambda-dot-0 theta-0 : Float) (r : Resonance)
   onward-ask : (s : ResonanceState) → Reaches I N lambda-0 s → numbersRefusal c q true ≡ Passed → stateAskOf c s q ≡ resonantAsk c I theta-0 s q
   onward-ask s w e = checked s w ∙ ap (checkedAsk c s q) e ∙ ap (kindAsk c s q) kind
 
-  on-last : (s : ResonanceState) → Reaches I N lambda-0 s → numbersRefusal c q true ≡ Passed → NotSeven (stateAskOf c s q)
+  on-last : (s : ResonanceState) → Reaches I N lambda-0 s → numbersRefusal c q true ≡ Passed → NotSeven (stateAskOf c s q .answer)
       → OnNode (resonantAsk c I theta-0 s q) s (answerAt c I theta-0 q (steps I (back (q .t)) (number (q .t)) (freshOf N lambda-0))) (steps I (back (q .t)) (number (q .t)) (freshOf N lambda-0))
   unfolding numbersRefusal
   on-last s w e seven =
@@ -251,7 +251,7 @@ module _ (c : Constants) (lambda-0 lambda-dot-0 theta-0 : Float) (r : Resonance)
       resonant c I N lambda-0 theta-0 q s w
       (passes c I N lambda-0 theta-0 q s w (t .0) (t .1) (λ p. seven (ap (λ (a : StateAsked). a .answer) (onward-ask s w e) ∙ p)))
 
-  alike : (s z : ResonanceState) → Reaches I N lambda-0 s → Reaches I N lambda-0 z → NotSeven (stateAskOf c s q) → NotSeven (stateAskOf c z q)
+  alike : (s z : ResonanceState) → Reaches I N lambda-0 s → Reaches I N lambda-0 z → NotSeven (stateAskOf c s q .answer) → NotSeven (stateAskOf c z q .answer)
       → (k : Checked) → numbersRefusal c q true ≡ k → SameAnswer (stateAskOf c s q) (stateAskOf c z q)
   alike s z v w ns nz (refusedCheck f) e =
       same-of (stateAskOf c s q) (stateAskOf c z q) (checkedAsk c s q (refusedCheck f)) (checkedAsk c z q (refusedCheck f))

@@ -6,8 +6,7 @@ use lib.ListN.{length}
 use Rattle.orbit.specs.declared.propagator.Constants.{Constants}
 use Rattle.elements.specs.declared.elements.Question.{Question}
 use Rattle.elements.specs.declared.elements.Outcome.{Outcome}
-use Rattle.times.specs.declared.time.Fault.the-variants.{NotOnward}
-use Rattle.resonance.specs.declared.ask.Answer.the-variants.{Refused, Reached}
+use Rattle.resonance.specs.declared.ask.Answer.the-variants.{Reached}
 use Rattle.contents.specs.Format.{Bytes}
 use Rattle.body.specs.Body.{bodyNumbers}
 use Rattle.body.specs.Examine.{stepsOf, examined}
@@ -18,6 +17,7 @@ use Rattle.controller.specs.declared.Controller.{Controller}
 use Rattle.controller.specs.declared.Reply.{Reply}
 use Rattle.controller.specs.declared.Restoring.the-variants.{Accepted}
 use Rattle.controller.specs.Running.{askedOf, kept, restoreOf}
+use Rattle.controller.specs.Restart.{NotSeven}
 use Rattle.controller.specs.Demand.{Event, Session, run, start}
 
 -- Save, restart, restore: a controller v of anything that restores what a controller w has saved is w, constants and state to the bit
@@ -26,10 +26,6 @@ Resumes =
     (w v : Controller) (s : List ℕ) (x room n : ℕ)
     → Bytes s → x < 2 ^ 32 → Held (bodyNumbers (w .constants) (w .state)) → stored s x (w .constants) (w .state) room ≡ Written n
     → restoreOf v (storedFile s x (w .constants) (w .state)) x ≡ kept w Accepted (stepsOf (examined (w .constants) (w .state)))
-
--- not refused for direction or order
-abbrev pub NotSeven : Reply → Type 0
-NotSeven a = a .answer ≡ Refused NotOnward → ⊥
 
 -- the same answer; and where it is elements or one of 9 to 12, the same controller after it, bit for bit
 pub record SamePointing (x y : Reply) : Type 0 where
@@ -43,4 +39,4 @@ PointsAlike =
     (c d : Constants) (es fs : List Event)
     → let w = run (start c) es .controller in
     let v = run (start d) fs .controller in
-    w .constants ≡ v .constants → (q : Question) → NotSeven (askedOf w q) → NotSeven (askedOf v q) → SamePointing (askedOf w q) (askedOf v q)
+    w .constants ≡ v .constants → (q : Question) → NotSeven (askedOf w q .answer) → NotSeven (askedOf v q .answer) → SamePointing (askedOf w q) (askedOf v q)

@@ -12,6 +12,7 @@ use Rattle.times.specs.declared.time.Fault.the-variants.{NotOnward}
 use Rattle.rates.specs.declared.Integrator.{Integrator}
 use Rattle.resonance.specs.declared.state.ResonanceState.{ResonanceState}
 use Rattle.resonance.specs.declared.state.MaybeState.the-variants.{Some}
+use Rattle.resonance.specs.declared.ask.Answer.{Answer}
 use Rattle.resonance.specs.declared.ask.Answer.the-variants.{Refused, Reached}
 use Rattle.resonance.specs.declared.ask.StateAsked.{StateAsked}
 use Rattle.resonance.specs.State.{freshOf, integrator}
@@ -23,8 +24,8 @@ abbrev pub Reaches : Integrator → Float → Float → ResonanceState → Type 
 Reaches i n lambda-0 s = (b : Bool) × (j : ℕ) × (j ≤ 2 ^ 20) × (steps i b j (freshOf n lambda-0) ≡ Some s)
 
 -- an ask that is not refused for direction or order
-abbrev pub NotSeven : StateAsked → Type 0
-NotSeven a = a .answer ≡ Refused NotOnward → ⊥
+abbrev pub NotSeven : Answer → Type 0
+NotSeven a = a ≡ Refused NotOnward → ⊥
 
 -- the same answer; and where it is elements or one of 9 to 12, the same state, bit for bit
 pub record SameAnswer (x y : StateAsked) : Type 0 where
@@ -37,4 +38,4 @@ Restart = (c : Constants) (lambda-0 lambda-dot-0 theta-0 : Float) (r : Resonance
     → (s z : ResonanceState)
     → Reaches (integrator (c .«orbit_0») lambda-dot-0 r) (c .«orbit_0» .«mean_motion») lambda-0 s
     → Reaches (integrator (c .«orbit_0») lambda-dot-0 r) (c .«orbit_0» .«mean_motion») lambda-0 z
-    → (q : Question) → NotSeven (stateAskOf c s q) → NotSeven (stateAskOf c z q) → SameAnswer (stateAskOf c s q) (stateAskOf c z q)
+    → (q : Question) → NotSeven (stateAskOf c s q .answer) → NotSeven (stateAskOf c z q .answer) → SameAnswer (stateAskOf c s q) (stateAskOf c z q)
