@@ -18,15 +18,14 @@ static const struct { const char *name; uint32_t numbers; } CALLS[FUNCTIONS] = {
     {"orbt_sqrt", BIT(0) | BIT(12)}, {"orbt_cbrt", BIT(0) | BIT(12)}, {"orbt_two_thirds", BIT(0) | BIT(12)},
     {"orbt_three_halves", BIT(0) | BIT(12)}, {"orbt_sin", BIT(0) | BIT(9)}, {"orbt_cos", BIT(0) | BIT(9)},
     {"orbt_sin_cos", BIT(0) | BIT(9)}, {"orbt_floor", BIT(0)}, {"orbt_rem_euclid", BIT(0)}, {"orbt_atan2", BIT(0)},
-    {"orbt_class", BIT(0) | BIT(1) | BIT(2)}, {"orbt_sidereal_time", BIT(0) | BIT(3) | BIT(13) | BIT(16)},
+    {"orbt_class", BIT(0) | BIT(1) | BIT(2)}, {"orbt_sidereal_time", BIT(0) | BIT(3) | BIT(13)},
     {"orbt_geometry", BIT(0) | BIT(3) | BIT(9) | BIT(13)}, {"orbt_build", BIT(0) | BIT(3) | BIT(9) | BIT(13) | BIT(16)},
-    {"orbt_fresh", BIT(0) | BIT(1) | BIT(16)}, {"orbt_step", BIT(0) | BIT(3) | BIT(4) | BIT(6) | BIT(8) | BIT(16)},
-    {"orbt_ask", 0x1FFF | BIT(16) | BIT(21)}, {"orbt_contents", BIT(0) | BIT(14)}, {"orbt_satellite", BIT(0) | BIT(14) | BIT(15)},
+    {"orbt_fresh", BIT(0) | BIT(1)}, {"orbt_step", BIT(0) | BIT(3) | BIT(4) | BIT(6) | BIT(8) | BIT(16)},
+    {"orbt_ask", 0x1FFF | BIT(16)}, {"orbt_contents", BIT(0) | BIT(14)}, {"orbt_satellite", BIT(0) | BIT(14) | BIT(15)},
     {"orbt_restore", BIT(0) | BIT(14) | BIT(15) | BIT(16) | BIT(17) | BIT(18)},
-    {"orbt_save", BIT(0) | BIT(4) | BIT(5) | BIT(14) | BIT(16) | BIT(17) | BIT(18) | BIT(19) | BIT(20)},
-    {"orbt_empty", BIT(0) | BIT(19)}, {"orbt_words", BIT(0)}, {"orbt_version", BIT(0)}};
+    {"orbt_save", BIT(0) | BIT(4) | BIT(5) | BIT(14) | BIT(16) | BIT(17) | BIT(18) | BIT(19) | BIT(20)}};
 
-static uint64_t counts[FUNCTIONS][22];
+static uint64_t counts[FUNCTIONS][21];
 uint64_t calls, seed;
 enum function calling;
 
@@ -37,7 +36,7 @@ void fail(const char *what) {
 
 uint32_t counted(uint32_t number) {
     calls++;
-    if (number > 21 || !(CALLS[calling].numbers & BIT(number))) fail("a number that the call may not give");
+    if (number > 20 || !(CALLS[calling].numbers & BIT(number))) fail("a number that the call may not give");
     counts[calling][number]++;
     return number;
 }
@@ -45,9 +44,9 @@ uint32_t counted(uint32_t number) {
 void print_tally(void) {
     for (int f = 0; f < FUNCTIONS; f++) {
         uint64_t all = 0;
-        for (int n = 0; n <= 21; n++) all += counts[f][n];
+        for (int n = 0; n <= 20; n++) all += counts[f][n];
         printf("%-20s %9" PRIu64 " ", CALLS[f].name, all);
-        for (int n = 0; n <= 21; n++)
+        for (int n = 0; n <= 20; n++)
             if (counts[f][n] > 0) printf("  %d: %" PRIu64, n, counts[f][n]);
         printf("\n");
     }
@@ -88,7 +87,7 @@ int same(double a, double b) { return to_bits(a) == to_bits(b); }
 
 const double LIMITS[] = {
     0.0034906585, 0.0052359877, 8.26e-3, 9.24e-3, 0.5, 0.65, 0.7, 0.715, 0.2, -0.001, 1.0, 1e-6, 1.5e-12, 720.0, 1440.0,
-    754974720.0, 16777216.0, 0.7853981633974483, 3.141592653589793, 6.283185307179586, 2.2250738585072014e-308,
+    754974720.0, 1048576.0, 0.7853981633974483, 3.141592653589793, 6.283185307179586, 2.2250738585072014e-308,
     1.7976931348623157e308, 4294967296.0, 9007199254740992.0, 0.0};
 
 double any_float(void) {

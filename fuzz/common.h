@@ -8,8 +8,7 @@
 
 enum function {
     SQRT, CBRT, TWO_THIRDS, THREE_HALVES, SIN, COS, SIN_COS, FLOOR, REM_EUCLID, ATAN2, CLASS, SIDEREAL_TIME, GEOMETRY,
-    BUILD, FRESH, STEP, ASK, CONTENTS, SATELLITE, RESTORE, SAVE, EMPTY_FILE, WORDS,
-    VERSION, FUNCTIONS
+    BUILD, FRESH, STEP, ASK, CONTENTS, SATELLITE, RESTORE, SAVE, FUNCTIONS
 };
 
 /* the function that is called, how many calls there were, and what they are drawn from */

@@ -18,7 +18,7 @@ static void step(void) {
                 : which < 39 ? FRESH : which < 45 ? STEP : ASK;
         fuzz_orbits();
     } else {
-        calling = which < 64 ? EMPTY_FILE + (enum function)below(3) : which < 69 ? CONTENTS : which < 75 ? SATELLITE : which < 88 ? RESTORE : SAVE;
+        calling = which < 69 ? CONTENTS : which < 75 ? SATELLITE : which < 88 ? RESTORE : SAVE;
         fuzz_store();
     }
 }

@@ -161,34 +161,6 @@ static uint32_t satellite_of(struct file *f) {
 
 /* ---- calls on the store */
 
-static void fuzz_empty(void) {
-    uint8_t bytes[32];
-    for (size_t i = 0; i < sizeof bytes; i++) bytes[i] = (uint8_t)draw();
-    size_t room = below(sizeof bytes + 1), given = draw();
-    uint8_t *out = lend(0, bytes, room);
-    size_t *size = lend(1, &given, sizeof given);
-    uint32_t number = counted(orbt_empty(out, room, size));
-    check_margins(2);
-    CHECK((number == 19) == (room < ORBT_EMPTY));
-    if (number != 0) CHECK(is_left(0) && is_left(1));
-    else CHECK(*size == ORBT_EMPTY && memcmp(out, "ORBT\1\0\0", ORBT_EMPTY) == 0 && is_left_from(0, ORBT_EMPTY));
-}
-
-static void fuzz_words(void) {
-    uint8_t bytes[128];
-    for (size_t i = 0; i < sizeof bytes; i++) bytes[i] = (uint8_t)draw();
-    uint32_t number = choice(21);
-    size_t room = below(sizeof bytes + 1);
-    uint8_t *out = lend(0, bytes, room);
-    size_t length = orbt_words(number, out, room);
-    counted(0);
-    check_margins(1);
-    CHECK(length <= 101 && (length == 0) == (number == 0 || number > 20));
-    if (length > room) CHECK(is_left(0));
-    else CHECK(is_left_from(0, length));
-    for (size_t i = 0; i < length && length <= room; i++) CHECK(out[i] >= ' ' && out[i] <= '~');
-}
-
 static void fuzz_contents(void) {
     choose_file();
     const uint8_t *file = lend(0, chosen.at, chosen.size);
@@ -328,9 +300,6 @@ void fill_stores(void) {
 
 void fuzz_store(void) {
     switch (calling) {
-    case EMPTY_FILE: fuzz_empty(); break;
-    case WORDS: fuzz_words(); break;
-    case VERSION: CHECK(orbt_version() == ORBT_VERSION); counted(0); break;
     case CONTENTS: fuzz_contents(); break;
     case SATELLITE: fuzz_satellite(); break;
     case RESTORE: fuzz_restore(); break;

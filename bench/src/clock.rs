@@ -42,20 +42,6 @@ fn lesser(a: [f64; 2], b: [f64; 2]) -> [f64; 2] {
     [a[0].min(b[0]), a[1].min(b[1])]
 }
 
-/// The least time of a call, ours and Rust's in turn.
-pub fn least(
-    repeats: usize,
-    calls: usize,
-    mut ours: impl FnMut() -> f64,
-    mut own: impl FnMut() -> f64,
-) -> [f64; 2] {
-    let mut times = [f64::MAX; 2];
-    for _ in 0..repeats {
-        times = lesser(times, [nanoseconds(calls, &mut ours), nanoseconds(calls, &mut own)]);
-    }
-    times
-}
-
 impl Table {
     fn take(&mut self, row: Row) {
         match self.0.iter_mut().find(|old| old.name == row.name) {
@@ -85,10 +71,13 @@ impl Table {
         name: String,
         repeats: usize,
         calls: usize,
-        ours: impl FnMut() -> f64,
-        own: impl FnMut() -> f64,
+        mut ours: impl FnMut() -> f64,
+        mut own: impl FnMut() -> f64,
     ) {
-        let apart = least(repeats, calls, ours, own);
+        let mut apart = [f64::MAX; 2];
+        for _ in 0..repeats {
+            apart = lesser(apart, [nanoseconds(calls, &mut ours), nanoseconds(calls, &mut own)]);
+        }
         self.take(Row { name, apart, chained: None });
     }
 

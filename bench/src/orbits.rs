@@ -12,19 +12,9 @@ use std::hint::black_box;
 
 pub struct Case {
     orbit: Orbit,
-    pub given: [f64; 31],
+    given: [f64; 31],
     pub ours: Constants,
-    pub own: sgp4_own::Constants,
-}
-
-impl Case {
-    /// The orbit built by both, where it is not refused.
-    pub fn new(orbit: Orbit) -> Option<Case> {
-        let own = Own::build(&orbit);
-        let given = orbit.given(&Own::rates());
-        let ours = build(orbit.is_afspc_time, orbit.flag as u32, &given).ok()?;
-        Some(Case { orbit, given, ours, own })
-    }
+    own: sgp4_own::Constants,
 }
 
 /// Orbits of this kind, low or high.
@@ -37,22 +27,26 @@ pub fn cases(kind: u32, is_low: bool, count: usize) -> Vec<Case> {
         if (i < 0.2) != is_low || (i - 0.2).abs() < 0.02 || i > 3.1 {
             continue;
         }
-        all.extend(Case::new(orbit).filter(|case| case.ours.kind == kind));
+        let own = Own::build(&orbit);
+        let given = orbit.given(&Own::rates());
+        let Ok(ours) = build(orbit.is_afspc_time, orbit.flag as u32, &given) else { continue };
+        if ours.kind == kind {
+            all.push(Case { orbit, given, ours, own });
+        }
     }
     all
 }
 
 // sgp4 has no call for one step: both run one ask over so many, beside which the rest of the ask is little.
-pub const STEPS: usize = 4096;
+const STEPS: usize = 4096;
 
-/// One ask of a fresh state over so many steps.
 #[inline(never)]
-pub fn long_ours(case: &Case, question: &[f64; 13], made: usize) -> f64 {
+fn long_ours(case: &Case, question: &[f64; 13]) -> f64 {
     let mut state = fresh(&case.ours).unwrap();
     let (mut elements, mut steps) = ([0.0; 12], 0);
     let c = &case.ours;
     unsafe { c::orbt_ask(c.kind, c.flag, &c.numbers, 1, &mut state, question, &mut elements, &mut steps) };
-    assert!(steps as usize == made);
+    assert!(steps as usize == STEPS);
     state[2]
 }
 
@@ -67,9 +61,9 @@ pub fn long_own(case: &Case, q: [f64; 3]) -> f64 {
     lambda
 }
 
-/// The same steps by the call for one step, which checks constants and state each time.
+// the same steps by the call for one step, which checks constants and state each time
 #[inline(never)]
-pub fn single_ours(case: &Case) -> f64 {
+fn single_ours(case: &Case) -> f64 {
     let mut state = fresh(&case.ours).unwrap();
     for _ in 0..STEPS {
         unsafe { c::orbt_step(case.ours.kind, &case.ours.numbers, 0, &mut state) };
@@ -86,7 +80,7 @@ fn steps(table: &mut Table, kind: u32, name: &str) {
         format!("step, {name}, in an ask over {STEPS}"),
         REPEATS,
         STEPS,
-        || long_ours(case, &asked, STEPS),
+        || long_ours(case, &asked),
         || long_own(case, q),
     );
     let name = format!("step, {name}, by the call for one");
@@ -94,9 +88,8 @@ fn steps(table: &mut Table, kind: u32, name: &str) {
     sgp4_own::give_nothing();
 }
 
-/// One ask.
 #[inline(never)]
-pub fn ask_ours(case: &Case, question: &[f64; 13], state: &mut [f64; 3]) -> f64 {
+fn ask_ours(case: &Case, question: &[f64; 13], state: &mut [f64; 3]) -> f64 {
     let (mut elements, mut steps) = ([0.0; 12], 0);
     let c = &case.ours;
     let held = (c.kind != 0) as u32;
@@ -105,7 +98,7 @@ pub fn ask_ours(case: &Case, question: &[f64; 13], state: &mut [f64; 3]) -> f64 
 }
 
 #[inline(never)]
-pub fn ask_own(case: &Case, q: [f64; 3], state: Option<&mut sgp4_own::ResonanceState>) -> f64 {
+fn ask_own(case: &Case, q: [f64; 3], state: Option<&mut sgp4_own::ResonanceState>) -> f64 {
     match sgp4_own::ask(&case.own, state, q[0], q[1], q[2], case.orbit.flag) {
         Ok(elements) => elements[4],
         Err(_) => 0.0,
@@ -137,7 +130,7 @@ fn asks(table: &mut Table, kind: u32, is_low: bool, name: &str) {
 }
 
 #[inline(never)]
-pub fn build_ours(case: &Case) -> f64 {
+fn build_ours(case: &Case) -> f64 {
     let (mut bodies, mut kind, mut numbers) = ([0.0; 14], 0, [0.0; 34]);
     let x = &case.orbit;
     unsafe {
@@ -148,7 +141,7 @@ pub fn build_ours(case: &Case) -> f64 {
 }
 
 #[inline(never)]
-pub fn build_own(case: &Case) -> f64 {
+fn build_own(case: &Case) -> f64 {
     black_box(&Own::build(&case.orbit));
     0.0
 }

@@ -9,7 +9,7 @@ use orbt::c;
 use orbt::orbits::{ask, fresh, Constants, State};
 use orbt::store::restore;
 
-pub const STEPS: usize = 1_048_576;
+const STEPS: usize = 1_048_576;
 
 // A restore at the limit takes a tenth of a second.
 const LONG_REPEATS: usize = 6;
@@ -26,7 +26,7 @@ fn followed(kind: u32) -> (Case, State) {
 
 // by the C interface itself, as a host would: the pointers are to locals and to slices
 #[inline(never)]
-pub fn restore_ours(file: &[u8], satellite: u32) -> f64 {
+fn restore_ours(file: &[u8], satellite: u32) -> f64 {
     let (mut kind, mut flag, mut held, mut steps) = (0, 0, 0, 0);
     let (mut numbers, mut state) = ([0.0; 34], [0.0; 3]);
     let number = unsafe {
@@ -47,7 +47,7 @@ pub fn restore_ours(file: &[u8], satellite: u32) -> f64 {
 }
 
 #[inline(never)]
-pub fn restore_plain(file: &[u8], satellite: u32) -> f64 {
+fn restore_plain(file: &[u8], satellite: u32) -> f64 {
     let (c, state) = plain::restore(file, satellite).unwrap();
     c.numbers[20] + state.unwrap()[2]
 }
@@ -64,19 +64,15 @@ fn at_limit(table: &mut Table, kind: u32, name: &str) {
 }
 
 // the satellite saved or restored stands in the middle of the others, whose numbers are odd
-pub const SATELLITE: u32 = 128;
+const SATELLITE: u32 = 128;
 
-/// An odd number of other satellites, of every kind.
-pub fn others(count: u32) -> Vec<Record> {
+fn others() -> Vec<Record> {
     let kinds = [0, 1, 2].map(|kind| cases(kind, false, 43));
-    let of = |k: usize| &kinds[k % 3][k / 3].ours;
-    (0..count)
-        .map(|k| (SATELLITE + 2 * k - count, of(k as usize)))
-        .map(|(x, c)| (x, body(c, fresh(c))))
-        .collect()
+    let in_turn = (0..127).map(|k| &kinds[k % 3][k / 3].ours);
+    in_turn.zip(0..).map(|(c, k)| (2 * k + 1, body(c, fresh(c)))).collect()
 }
 
-pub fn with(others: &[Record], c: &Constants) -> Vec<u8> {
+fn with(others: &[Record], c: &Constants) -> Vec<u8> {
     let mut all = others.to_vec();
     all.push((SATELLITE, body(c, fresh(c))));
     all.sort_by_key(|record| record.0);
@@ -98,7 +94,7 @@ fn restores(table: &mut Table, all: &[Case], others: &[Record], name: &str) {
 }
 
 #[inline(never)]
-pub fn save_ours(old: &[u8], out: &mut [u8], c: &Constants, state: State) -> f64 {
+fn save_ours(old: &[u8], out: &mut [u8], c: &Constants, state: State) -> f64 {
     let (held, state) = (state.is_some() as u32, state.unwrap_or_default());
     let mut size = 0;
     let number = unsafe {
@@ -121,7 +117,7 @@ pub fn save_ours(old: &[u8], out: &mut [u8], c: &Constants, state: State) -> f64
 }
 
 #[inline(never)]
-pub fn save_plain(old: &[u8], out: &mut [u8], c: &Constants, state: State) -> f64 {
+fn save_plain(old: &[u8], out: &mut [u8], c: &Constants, state: State) -> f64 {
     plain::save(old, out, SATELLITE, c, state).unwrap() as f64
 }
 
@@ -147,7 +143,7 @@ pub fn rows(table: &mut Table) {
     at_limit(table, 1, "one-day");
     at_limit(table, 2, "half-day");
     let all = cases(2, false, 64);
-    let others = others(127);
+    let others = others();
     restores(table, &all, &[], "alone in its file");
     restores(table, &all, &others, "among 127 others");
     saves(table, &all, &[], "into an empty file");

@@ -63,10 +63,10 @@ static void floats(void) {
 
     y = KEPT;
     CHECK(orbt_sin(NAN, &y) == 9 && is_kept(&y, 1));
-    CHECK(orbt_sin(16777216.0, &y) == 0 && is_near(y, sin(16777216.0)));
+    CHECK(orbt_sin(1048576.0, &y) == 0 && is_near(y, sin(1048576.0)));
     CHECK(orbt_sin(0.0, &y) == 0 && same(y, 0.0));
     y = KEPT;
-    CHECK(orbt_cos(nextafter(16777216.0, INFINITY), &y) == 9 && is_kept(&y, 1));
+    CHECK(orbt_cos(nextafter(1048576.0, INFINITY), &y) == 9 && is_kept(&y, 1));
     CHECK(orbt_cos(-2.5, &y) == 0 && is_near(y, cos(-2.5)));
     CHECK(orbt_cos(0.0, &y) == 0 && same(y, 1.0));
     y = KEPT;
@@ -104,9 +104,6 @@ static void times_and_places(void) {
     CHECK(orbt_sidereal_time(0, 1e150, &theta) == 13 && is_kept(&theta, 1));
     CHECK(orbt_sidereal_time(0, 55.7, &theta) == 0 && fabs(theta - iau(55.7)) < 5e-11);
     CHECK(orbt_sidereal_time(1, 55.7, &theta) == 0 && fabs(theta - afspc(55.7)) < 5e-11);
-    theta = KEPT;
-    CHECK(orbt_sidereal_time(2, 55.7, &theta) == 16 && is_kept(&theta, 1));
-    CHECK(orbt_sidereal_time(7, NAN, &theta) == 16 && is_kept(&theta, 1));
     CHECK(fabs(iau(55.7) - afspc(55.7)) > 2e-10); /* else the two could not be told apart */
 
     double bodies[ORBT_BODIES];
@@ -154,7 +151,6 @@ static void builds(void) {
     uint32_t kind = KEPT_NUMBER;
     keep(constants, ORBT_CONSTANTS);
     give(given, 0.02, 0.1);
-    CHECK(orbt_build(2, 0, given, &kind, constants) == 16 && kind == KEPT_NUMBER && is_kept(constants, ORBT_CONSTANTS));
     CHECK(orbt_build(0, 2, given, &kind, constants) == 16 && kind == KEPT_NUMBER && is_kept(constants, ORBT_CONSTANTS));
     given[30] = NAN;
     CHECK(orbt_build(0, 0, given, &kind, constants) == 3 && kind == KEPT_NUMBER && is_kept(constants, ORBT_CONSTANTS));
@@ -211,7 +207,6 @@ static void states(void) {
     double n = constants[10], lambda = constants[20], rate = n + constants[21];
     keep(state, ORBT_STATE);
     CHECK(orbt_fresh(0, constants, state) == 0 && is_kept(state, ORBT_STATE));
-    CHECK(orbt_fresh(3, constants, state) == 16 && orbt_fresh(7, constants, state) == 16 && is_kept(state, ORBT_STATE));
     CHECK(orbt_fresh(1, constants, state) == 1);
     CHECK(same(state[0], 0.0) && same(state[1], n) && same(state[2], lambda));
 
@@ -262,14 +257,13 @@ static void asks(void) {
     check_elements(constants, question, pow(constants[1] / n, 2.0 / 3.0), moved + rate * 280.0 - 4.7 - 4.4 + theta,
                    elements);
 
-    /* 1 to 8 leave the state, the elements too, and make no step; 21 leaves the state's time in elements[0]; 16 leaves the
-     * steps as well */
+    /* 1 to 8 leave the state, the elements too, and make no step; 16 leaves the steps as well */
     double before[ORBT_STATE];
     memcpy(before, state, sizeof state);
     keep(elements, ORBT_ELEMENTS);
     double wrong[ORBT_QUESTION];
     struct { double t; uint32_t kind, held, number; } refused[] = {
-        {NAN, 1, 1, 1}, {754974721.0, 1, 1, 2}, {1000.0, 0, 1, 4}, {1000.0, 1, 0, 5}, {-0.0, 1, 1, 7}};
+        {NAN, 1, 1, 1}, {754974721.0, 1, 1, 2}, {1000.0, 0, 1, 4}, {1000.0, 1, 0, 5}, {719.0, 1, 1, 7}};
     for (int i = 0; i < 5; i++) {
         memcpy(wrong, question, sizeof wrong);
         wrong[0] = refused[i].t;
@@ -278,10 +272,6 @@ static void asks(void) {
               refused[i].number);
         CHECK(steps == 0 && is_kept(elements, ORBT_ELEMENTS) && memcmp(before, state, sizeof state) == 0);
     }
-    wrong[0] = 719.0;
-    CHECK(orbt_ask(1, 0, constants, 1, state, wrong, elements, &steps) == 21 && steps == 0);
-    CHECK(same(elements[0], 720.0) && is_kept(elements + 1, ORBT_ELEMENTS - 1) && memcmp(before, state, sizeof state) == 0);
-    keep(elements, ORBT_ELEMENTS);
     steps = KEPT_NUMBER;
     CHECK(orbt_ask(3, 0, constants, 1, state, question, elements, &steps) == 16);
     CHECK(orbt_ask(1, 2, constants, 1, state, question, elements, &steps) == 16);
@@ -407,41 +397,7 @@ static void store(void) {
     CHECK(size == KEPT_NUMBER && memcmp(second, kept, sizeof second) == 0);
 }
 
-/* the header's own words, which the script that builds this takes out of its first comment */
-static const char *const WORDS[] = {
-#include "words.h"
-};
-
-static void about(void) {
-    CHECK(ORBT_VERSION == 256 && orbt_version() == ORBT_VERSION);
-    CHECK(sizeof WORDS / sizeof *WORDS == 20);
-    uint8_t room[128], kept[128];
-    memset(kept, 0xA5, sizeof kept);
-    for (uint32_t number = 1; number <= 20; number++) {
-        const char *words = WORDS[number - 1];
-        size_t length = strlen(words);
-        memcpy(room, kept, sizeof room);
-        CHECK(orbt_words(number, room, sizeof room) == length && memcmp(room, words, length) == 0);
-        CHECK(memcmp(room + length, kept, sizeof room - length) == 0);
-        memcpy(room, kept, sizeof room);
-        CHECK(orbt_words(number, room, length - 1) == length && memcmp(room, kept, sizeof room) == 0);
-        CHECK(orbt_words(number, room, length) == length && memcmp(room, words, length) == 0);
-    }
-    memcpy(room, kept, sizeof room);
-    CHECK(orbt_words(0, room, sizeof room) == 0 && orbt_words(21, room, sizeof room) == 0);
-    CHECK(orbt_words(0xFFFFFFFF, room, sizeof room) == 0 && memcmp(room, kept, sizeof room) == 0);
-
-    const uint8_t empty[ORBT_EMPTY] = {0x4F, 0x52, 0x42, 0x54, 1, 0, 0, 0};
-    size_t size = KEPT_NUMBER;
-    uint32_t count = KEPT_NUMBER;
-    CHECK(orbt_empty(room, ORBT_EMPTY - 1, &size) == 19 && size == KEPT_NUMBER && memcmp(room, kept, sizeof room) == 0);
-    CHECK(orbt_empty(room, sizeof room, &size) == 0 && size == ORBT_EMPTY && memcmp(room, empty, ORBT_EMPTY) == 0);
-    CHECK(memcmp(room + ORBT_EMPTY, kept, sizeof room - ORBT_EMPTY) == 0);
-    CHECK(orbt_contents(room, size, &count) == 0 && count == 0);
-}
-
 int main(void) {
-    about();
     floats();
     times_and_places();
     builds();

@@ -4,17 +4,13 @@
  *     host FOLDER [STORE [SATELLITE]]
  *
  * Without STORE it makes FOLDER/store.orbt; the new file is FOLDER/moved.orbt. */
-#define _POSIX_C_SOURCE 200809L
 #include "orbt.h"
 
-#include <fcntl.h>
 #include <inttypes.h>
-#include <libgen.h>
 #include <math.h>
 #include <stdio.h>
 #include <stdlib.h>
 #include <string.h>
-#include <unistd.h>
 
 /* 08195 MOLNIYA 2-14 of SGP4-VER.TLE, half-day: what orbt_build is given, by WGS72. The first eleven are the
  * model and the orbit, the next ten what sgp4's Constants::new works out, the last ten its third_body. */
@@ -32,6 +28,30 @@ static const char *const KINDS[3] = {"non-resonant", "one-day", "half-day"};
 static const char *const ELEMENTS[ORBT_ELEMENTS] = {
     "inclination", "right ascension", "eccentricity", "argument of perigee", "mean anomaly", "mean motion",
     "a", "p32", "p33", "p34", "p35", "p36"};
+
+/* the header's words */
+static const char *const WORDS[21] = {
+    "",
+    "the time is not finite",
+    "the time is beyond 754,974,720 minutes",
+    "another number given is not finite",
+    "a state is given, and the orbit is non-resonant",
+    "no state is given, and the orbit is resonant",
+    "the state's time is -0.0, no multiple of 720, or beyond the limit",
+    "the state's time has the other direction, or is past the time asked: reset first",
+    "the resonance cannot be followed there: an angle or a number of a state on the way is out of range",
+    "an angle is beyond 1,048,576, or is a NaN",
+    "the eccentricity is out of range: it and the time are carried",
+    "the perturbed eccentricity is outside 0 to 1: it and the time are carried",
+    "a root or power is taken of no such number, or an element is not finite",
+    "a number built is not finite",
+    "the header or the contents of the file are wrong",
+    "the satellite is not in the file",
+    "a kind, flag or like number of the call or of a record is wrong, or the kind is not the orbit's class",
+    "a number of the record is not finite",
+    "the record's state is not what its steps make of the fresh state",
+    "the output is shorter than the new file",
+    "a 129th satellite, or a new file of 2^32 bytes or more"};
 
 /* a file in memory */
 struct bytes {
@@ -51,9 +71,7 @@ static void fail(const char *what, const char *path) {
 }
 
 static void refused(const char *what, uint32_t number) {
-    uint8_t words[128];
-    size_t length = orbt_words(number, words, sizeof words);
-    printf("%s: refused %" PRIu32 ", %.*s\n", what, number, (int)length, (const char *)words);
+    printf("%s: refused %" PRIu32 ", %s\n", what, number, WORDS[number]);
 }
 
 static void number(const char *name, double x) {
@@ -87,21 +105,14 @@ static struct bytes load(const char *path) {
     return file;
 }
 
-/* writes beside the file, and renames once that is on disk, so that the old one stands until the new one is whole; the
- * new name is on disk once the folder is */
+/* writes beside the file and renames, so that the old one stands until the new one is whole */
 static void keep(const char *path, const uint8_t *at, size_t size) {
     char beside[4096];
     snprintf(beside, sizeof beside, "%s.part", path);
     FILE *to = fopen(beside, "wb");
     if (to == NULL) fail("cannot write", beside);
-    int written = fwrite(at, 1, size, to) == size && fflush(to) == 0 && fsync(fileno(to)) == 0;
-    if (fclose(to) != 0 || !written) fail("cannot write", beside);
+    if (fwrite(at, 1, size, to) != size || fclose(to) != 0) fail("cannot write", beside);
     if (rename(beside, path) != 0) fail("cannot write", path);
-    char folder[4096];
-    snprintf(folder, sizeof folder, "%s", path);
-    int place = open(dirname(folder), O_RDONLY);
-    if (place < 0 || fsync(place) != 0) fail("cannot sync the folder of", path);
-    close(place);
 }
 
 /* ---- the library */
@@ -139,16 +150,15 @@ static uint32_t restore(struct bytes file, uint32_t satellite, struct orbit *orb
 }
 
 static void make(const char *path) {
-    uint8_t empty[ORBT_EMPTY];
-    struct bytes old = {empty, 0};
+    uint8_t empty[8] = {0x4F, 0x52, 0x42, 0x54, 1, 0, 0, 0};
     struct orbit orbit = {0};
-    orbt_empty(empty, sizeof empty, &old.size);
     uint32_t refusal = orbt_build(0, 0, GIVEN, &orbit.kind, orbit.constants);
     if (refusal != 0) {
         refused("build", refusal);
         exit(1);
     }
     orbit.held = orbt_fresh(orbit.kind, orbit.constants, orbit.state);
+    struct bytes old = {empty, sizeof empty};
     if (save(path, old, MADE, &orbit) != 0) exit(1);
 }
 

@@ -13,48 +13,50 @@ use Rattle.orbit.specs.declared.propagator.Resonance.TheVariants.{OneDay, HalfDa
 use Rattle.orbit.specs.declared.propagator.Resonant.{Resonant}
 use Rattle.orbit.specs.declared.propagator.Resonant.TheVariants.{No, Yes}
 use Rattle.orbit.specs.declared.propagator.Constants.{Constants}
-use Rattle.constants_list.specs.Numbers.{kind_of, common_of, tail_of, numbers_of, constants_of, resonant_of, place}
+use Rattle.record.specs.Record.{kind_of, common_of, tail_of, numbers_of, constants_of, resonant_of, place}
 use Rattle.resonance.specs.declared.state.ResonanceState.{ResonanceState}
 use Rattle.resonance.specs.declared.state.MaybeState.{MaybeState}
 use Rattle.resonance.specs.declared.state.MaybeState.TheVariants.{None, Some}
-use Rattle.constants_list.proofs.Back.{back}
+use Rattle.record.proofs.Back.{back}
 use Rattle.body.specs.Floats.{float_at, floats, float_bytes}
-use Rattle.body.specs.Body.{numbers_start, number_count, state_start, size_of, leading, front, own_numbers, state_numbers, body_numbers, body_of}
+use Rattle.body.specs.Body.{numbers_start, number_count, state_start, size_of, leading, state_numbers, body_numbers, body_of}
 use Rattle.body.specs.Examine.{examined}
-use Rattle.body.specs.Read.{byte, kind_in, shaped, constants_in, state_at, state_in, held_in, body_read}
-use Rattle.body.specs.Back.{OfFormat, Fitting, ReadBack}
-use Rattle.body.specs.declared.held.Held.{Held}
-use Rattle.body.specs.declared.layout.Layout.{Layout}
-use Rattle.body.specs.declared.layout.Layout.TheVariants.{One}
+use Rattle.body.specs.Read.{byte, kind_in, shaped, constants_in, state_at, held_at, state_in, body_read}
+use Rattle.body.specs.Back.{Held, Fitting, ReadBack}
 use Rattle.body.proofs.Floats.{length-float_bytes, float_bytes-append, floats-back}
-use Rattle.body.proofs.Sizes.{length_front, length-body, numbers-count}
-use Rattle.body.proofs.Sound.{format-front, format-rest}
+use Rattle.body.proofs.Sizes.{length-body, numbers-count}
 
-module _ (l : Layout) (g : Held) (f : OfFormat (body_numbers g)) where
-  abbrev c : Constants
-  c = g.constants
+-- the numbers of the constants, and those of the state
+abbrev own : Constants → List Float
+own c = take (number_count (kind_of c.resonant)) (numbers_of c)
 
-  abbrev s : MaybeState
-  s = g.state
+held-front : (xs ys : List Float) → Held (xs ++ ys) → Held xs
+held-front [] ys h = tt
+held-front (x ∷ xs) ys h = (h.0, held-front xs ys h.1)
 
+held-rest : (xs ys : List Float) → Held (xs ++ ys) → Held ys
+held-rest [] ys h = h
+held-rest (x ∷ xs) ys h = held-rest xs ys h.1
+
+module _ (c : Constants) (s : MaybeState) (h : Held (body_numbers c s)) where
   -- the body, with what stands before the state
-  split : body_of l g ≡ front l c ++ (float_bytes (own_numbers c) ++ float_bytes (state_numbers s))
+  split : body_of c s ≡ leading (kind_of c.resonant) c.afspc_compatibility_mode ++ (float_bytes (own c) ++ float_bytes (state_numbers s))
   unfolding body_of
-  split = simp (float_bytes-append (own_numbers c) (state_numbers s))
+  split = simp (float_bytes-append (own c) (state_numbers s))
 
-  numbers-back : floats (number_count (kind_of c.resonant)) (numbers_start l) (body_of l g) ≡ own_numbers c
+  numbers-back : floats (number_count (kind_of c.resonant)) 8 (body_of c s) ≡ own c
   numbers-back =
-      ap (floats (number_count (kind_of c.resonant)) (numbers_start l)) split
-      ∙ ap (λ (n : ℕ). floats n (numbers_start l) (front l c ++ (float_bytes (own_numbers c) ++ float_bytes (state_numbers s)))) (sym (numbers-count c))
-      ∙ floats-back (numbers_start l) (own_numbers c) (front l c) (float_bytes (state_numbers s)) (length_front l c) (format-front (own_numbers c) (state_numbers s) f)
+      ap (λ (l : List ℕ). floats (number_count (kind_of c.resonant)) 8 l) split
+      ∙ ap (λ (n : ℕ). floats n 8 (leading (kind_of c.resonant) c.afspc_compatibility_mode ++ (float_bytes (own c) ++ float_bytes (state_numbers s)))) (sym (numbers-count c))
+      ∙ floats-back 8 (own c) (leading (kind_of c.resonant) c.afspc_compatibility_mode) (float_bytes (state_numbers s)) refl (held-front (own c) (state_numbers s) h)
 
-  state-back : floats (length (state_numbers s)) (state_start l (kind_of c.resonant)) (body_of l g) ≡ state_numbers s
+  state-back : floats (length (state_numbers s)) (state_start (kind_of c.resonant)) (body_of c s) ≡ state_numbers s
   state-back =
-      let n : length (front l c ++ float_bytes (own_numbers c)) ≡ state_start l (kind_of c.resonant) =
-      simp (length-append, length_front, length-float_bytes) (let k = numbers-count c in omega arith) in
-      let e : body_of l g ≡ (front l c ++ float_bytes (own_numbers c)) ++ (float_bytes (state_numbers s) ++ []) = split ∙ simp (append-nil, append_assoc) in
-      ap (floats (length (state_numbers s)) (state_start l (kind_of c.resonant))) e
-      ∙ floats-back (state_start l (kind_of c.resonant)) (state_numbers s) (front l c ++ float_bytes (own_numbers c)) [] n (format-rest (own_numbers c) (state_numbers s) f)
+      let f = leading (kind_of c.resonant) c.afspc_compatibility_mode in
+      let n : length (f ++ float_bytes (own c)) ≡ state_start (kind_of c.resonant) = simp length-float_bytes (let k = numbers-count c in omega arith) in
+      let e : body_of c s ≡ (f ++ float_bytes (own c)) ++ (float_bytes (state_numbers s) ++ []) = split ∙ simp append-nil in
+      ap (λ (l : List ℕ). floats (length (state_numbers s)) (state_start (kind_of c.resonant)) l) e
+      ∙ floats-back (state_start (kind_of c.resonant)) (state_numbers s) (f ++ float_bytes (own c)) [] n (held-rest (own c) (state_numbers s) h)
 
 -- ---- the constants
 
@@ -73,58 +75,52 @@ own-numbers c (Yes lambda-0 lambda-dot-0 theta_0 (OneDay dr1 dr2 dr3)) flag = re
 own-numbers c (Yes lambda-0 lambda-dot-0 theta_0 (HalfDay d2201 d2211 d3210 d3222 d4410 d4422 d5220 d5232 d5421 d5433 k14)) flag = refl
 
 -- the first two bytes
-kind-in : (l : Layout) (g : Held) → kind_in (body_of l g) ≡ kind_of g.constants.resonant
+kind-in : (c : Constants) (s : MaybeState) → kind_in (body_of c s) ≡ kind_of c.resonant
 unfolding body_of
-kind-in One g = refl
+kind-in c s = refl
 
-flag-in : (l : Layout) (g : Held) → byte (body_of l g) 1 ≡ cond g.constants.afspc_compatibility_mode 1 0
+flag-in : (c : Constants) (s : MaybeState) → byte (body_of c s) 1 ≡ cond c.afspc_compatibility_mode 1 0
 unfolding body_of
-flag-in One g = refl
+flag-in c s = refl
 
 flag-back : (f : Bool) → eqb (cond f 1 0) 1 ≡ f
 flag-back true = refl
 flag-back false = refl
 
-constants-back : (l : Layout) (g : Held) → OfFormat (body_numbers g) → constants_in l (body_of l g) ≡ g.constants
-constants-back l g h =
-    let c = g.constants in
+constants-back : (c : Constants) (s : MaybeState) → Held (body_numbers c s) → constants_in (body_of c s) ≡ c
+constants-back c s h =
     let k = kind_of c.resonant in
     let f = c.afspc_compatibility_mode in
-    let b = body_of l g in
-    let x = floats 34 (numbers_start l) b in
-    ap (λ (j : ℕ). constants_of j (eqb (byte b 1) 1) x) (kind-in l g)
-    ∙ ap (λ (t : Bool). constants_of k t x) (ap (λ (j : ℕ). eqb j 1) (flag-in l g) ∙ flag-back f)
-    ∙ own-places c.resonant f (numbers_start l) b
-    ∙ ap (constants_of k f) (numbers-back l g h)
-    ∙ own-numbers c c.resonant f
+    let b = body_of c s in
+    ap (λ (j : ℕ). constants_of j (eqb (byte b 1) 1) (floats 34 8 b)) (kind-in c s)
+    ∙ ap (λ (g : Bool). constants_of k g (floats 34 8 b)) (ap (λ (j : ℕ). eqb j 1) (flag-in c s) ∙ flag-back f)
+    ∙ own-places c.resonant f 8 b
+    ∙ ap (constants_of k f) (numbers-back c s h)
+    ∙ (own-numbers c c.resonant f)
     ∙ back c
 
 -- ---- the state
 
 state-of : (at : ℕ) (b : List ℕ) (z : ResonanceState) → floats 3 at b ≡ z.t ∷ z.mean_motion ∷ z.lambda ∷ []
-    → state_at at b ≡ z
+    → record { t = float_at at b; mean_motion = float_at (at + 8) b; lambda = float_at (at + 8 + 8) b } ≡ z
 unfolding floats
-state-of at b z e =
-    let m : at + 16 ≡ at + 8 + 8 = omega arith in
-    ap (λ (n : ℕ). record { t = float_at at b; mean_motion = float_at (at + 8) b; lambda = float_at n b }) m
-    ∙ ap (λ (l : List Float). record { t = place l 0; mean_motion = place l 1; lambda = place l 2 }) e
+state-of at b z e = ap (λ (l : List Float). record { t = place l 0; mean_motion = place l 1; lambda = place l 2 }) e
 
-state-in : (l : Layout) (b : List ℕ) (r : Resonant) (s : MaybeState) → Fitting r s
-    → floats (length (state_numbers s)) (state_start l (kind_of r)) b ≡ state_numbers s → state_in l (kind_of r) b ≡ s
-state-in l b (No a0) None f e = refl
-state-in l b (No a0) (Some z) f e = absurd f
-state-in l b (Yes lambda-0 lambda-dot-0 theta_0 r) None f e = absurd f
-state-in l b (Yes lambda-0 lambda-dot-0 theta_0 (OneDay dr1 dr2 dr3)) (Some z) f e = ap Some (state-of (state_start l 1) b z e)
-state-in l b (Yes lambda-0 lambda-dot-0 theta_0 (HalfDay d2201 d2211 d3210 d3222 d4410 d4422 d5220 d5232 d5421 d5433 k14)) (Some z) f e = ap Some (state-of (state_start l 2) b z e)
+held_back : (b : List ℕ) (r : Resonant) (s : MaybeState) → Fitting r s → floats (length (state_numbers s)) (state_start (kind_of r)) b ≡ state_numbers s → held_at (kind_of r) b ≡ s
+held_back b (No a0) None f e = refl
+held_back b (No a0) (Some z) f e = absurd f
+held_back b (Yes lambda-0 lambda-dot-0 theta_0 r) None f e = absurd f
+held_back b (Yes lambda-0 lambda-dot-0 theta_0 (OneDay dr1 dr2 dr3)) (Some z) f e = ap Some (state-of 216 b z e)
+held_back b (Yes lambda-0 lambda-dot-0 theta_0 (HalfDay d2201 d2211 d3210 d3222 d4410 d4422 d5220 d5232 d5421 d5433 k14)) (Some z) f e = ap Some (state-of 280 b z e)
 
 -- ---- the shape
 
-size_back : (l : Layout) (r : Resonant) (s : MaybeState) → Fitting r s → numbers_start l + 8 * (number_count (kind_of r) + length (state_numbers s)) ≡ size_of l (kind_of r)
-size_back l (No a0) None f = refl
-size_back l (No a0) (Some z) f = absurd f
-size_back l (Yes lambda-0 lambda-dot-0 theta_0 r) None f = absurd f
-size_back l (Yes lambda-0 lambda-dot-0 theta_0 (OneDay dr1 dr2 dr3)) (Some z) f = omega arith
-size_back l (Yes lambda-0 lambda-dot-0 theta_0 (HalfDay d2201 d2211 d3210 d3222 d4410 d4422 d5220 d5232 d5421 d5433 k14)) (Some z) f = omega arith
+size_back : (r : Resonant) (s : MaybeState) → Fitting r s → 8 + 8 * (number_count (kind_of r) + length (state_numbers s)) ≡ size_of (kind_of r)
+size_back (No a0) None f = refl
+size_back (No a0) (Some z) f = absurd f
+size_back (Yes lambda-0 lambda-dot-0 theta_0 r) None f = absurd f
+size_back (Yes lambda-0 lambda-dot-0 theta_0 (OneDay dr1 dr2 dr3)) (Some z) f = refl
+size_back (Yes lambda-0 lambda-dot-0 theta_0 (HalfDay d2201 d2211 d3210 d3222 d4410 d4422 d5220 d5232 d5421 d5433 k14)) (Some z) f = refl
 
 kind-small : (r : Resonant) → leb (kind_of r) 2 ≡ true
 kind-small (No a0) = refl
@@ -135,22 +131,17 @@ flag_small : (f : Bool) → leb (cond f 1 0) 1 ≡ true
 flag_small true = refl
 flag_small false = refl
 
-shape-back : (l : Layout) (g : Held) → Fitting g.constants.resonant g.state → shaped l (body_of l g) ≡ true
+shape-back : (c : Constants) (s : MaybeState) → Fitting c.resonant s → shaped (body_of c s) ≡ true
 unfolding body_of
-shape-back One g f =
-    shape g.constants.resonant g.constants.afspc_compatibility_mode (body_numbers g) (length-body One g ∙ size_back One g.constants.resonant g.state f)
+shape-back c s f =
+    shape c.resonant c.afspc_compatibility_mode (body_numbers c s) (length-body c s ∙ size_back c.resonant s f)
   where
-    shape : (r : Resonant) (t : Bool) (xs : List Float) → length (leading (kind_of r) t ++ float_bytes xs) ≡ size_of One (kind_of r)
-        → shaped One (leading (kind_of r) t ++ float_bytes xs) ≡ true
-    shape r t xs e = unfold shaped in simp (eq-eqb _ _ e, kind-small r, flag_small t)
-
-held_back : (l : Layout) (g : Held) → Fitting g.constants.resonant g.state → OfFormat (body_numbers g) → held_in l (body_of l g) ≡ g
-held_back l g f h =
-    let b = body_of l g in
-    let s : state_in l (kind_in b) b ≡ g.state =
-    ap (λ (k : ℕ). state_in l k b) (kind-in l g) ∙ state-in l b g.constants.resonant g.state f (state-back l g h) in
-    ap (λ (c : Constants). record { constants = c; state = state_in l (kind_in b) b }) (constants-back l g h)
-    ∙ ap (λ (z : MaybeState). record { constants = g.constants; state = z }) s
+    shape : (r : Resonant) (g : Bool) (xs : List Float) → length (leading (kind_of r) g ++ float_bytes xs) ≡ size_of (kind_of r)
+        → shaped (leading (kind_of r) g ++ float_bytes xs) ≡ true
+    shape r g xs e = unfold shaped in simp (eq-eqb _ _ e, kind-small r, flag_small g)
 
 pub read_back : ReadBack
-read_back l g f h = unfold body_read in simp (shape-back l g f, held_back l g f h)
+read_back c s f h =
+    let b = body_of c s in
+    unfold body_read in
+    simp (shape-back c s f, constants-back c s h, ap (λ (k : ℕ). held_at k b) (kind-in c s) ∙ held_back b c.resonant s f (state-back c s h))

@@ -15,7 +15,7 @@ use Rattle.contents.specs.Laid.{laid, laid_inside}
 use Rattle.contents.proofs.Le.{length-le_bytes, le-le_bytes, word-inside}
 use Rattle.contents.proofs.Laid.{laid-laid, laid_nil, laid-inside}
 use Rattle.body.specs.Floats.{float_at, floats, float_bytes}
-use Rattle.body.specs.Back.{OfFormat}
+use Rattle.body.specs.Back.{Held}
 
 -- ---- written
 
@@ -75,7 +75,7 @@ float_back at x before after n h =
     ∙ le-le_bytes 8 (to_bits binary64 x) after (to_bits-lt binary64 x h))
     ∙ of_bits-to_bits binary64 x h
 
-pub floats-back : (at : ℕ) (xs : List Float) (before after : List ℕ) → length before ≡ at → OfFormat xs
+pub floats-back : (at : ℕ) (xs : List Float) (before after : List ℕ) → length before ≡ at → Held xs
     → floats (length xs) at (before ++ (float_bytes xs ++ after)) ≡ xs
 unfolding floats float_bytes
 floats-back at [] before after n h = refl

@@ -3,4 +3,3 @@ pub mod Sizes
 pub mod Made
 pub mod Back
 pub mod Passes
-pub mod Sound

@@ -10,15 +10,13 @@ use lib.Ieee.{Float}
 use Rattle.orbit.specs.declared.propagator.Resonance.TheVariants.{OneDay, HalfDay}
 use Rattle.orbit.specs.declared.propagator.Resonant.{Resonant}
 use Rattle.orbit.specs.declared.propagator.Resonant.TheVariants.{No, Yes}
-use Rattle.constants_list.specs.Numbers.{kind_of}
+use Rattle.record.specs.Record.{kind_of}
 use Rattle.contents.specs.LittleEndian.{le_bytes}
-use Rattle.contents.specs.Laid.{laid}
-use Rattle.contents.proofs.Laid.{laid_then, laid-front}
+use Rattle.contents.specs.Laid.{laid, laid_inside}
+use Rattle.contents.proofs.Le.{length-le_bytes}
+use Rattle.contents.proofs.Laid.{laid_then, laid-front, laid-inside}
 use Rattle.body.specs.Floats.{float_bytes}
-use Rattle.orbit.specs.declared.propagator.Constants.{Constants}
-use Rattle.body.specs.declared.layout.Layout.{Layout}
-use Rattle.body.specs.declared.layout.Layout.TheVariants.{One}
-use Rattle.body.specs.Body.{leading, first_word, front}
+use Rattle.body.specs.Body.{leading, first_word}
 use Rattle.body.proofs.Floats.{length-float_bytes, float_bytes-append}
 
 -- the first eight bytes are those of the first word
@@ -36,20 +34,19 @@ drop-zeros zero n = simp sub-zero
 drop-zeros (suc k) zero = simp zero-sub
 drop-zeros (suc k) (suc n) = drop-zeros k n ∙ simp suc-sub-suc
 
--- what stands before the numbers is those bytes
-pub front-word : (l : Layout) (c : Constants) → le_bytes 8 (first_word (kind_of c.resonant) c.afspc_compatibility_mode) ≡ front l c
-front-word One c = first-bytes c.resonant c.afspc_compatibility_mode
-
 -- over zeros, three parts one after another
-pub made : (f : List ℕ) (at n : ℕ) (xs ys : List Float) {b₁ b₂ b₃ : List ℕ} → length f ≡ at → length xs ≡ n
-    → b₁ ≡ laid 0 f (replicate 304 0) → b₂ ≡ laid at (float_bytes xs) b₁ → b₃ ≡ laid (at + 8 * n) (float_bytes ys) b₂
-    → b₃ ≡ (f ++ float_bytes (xs ++ ys)) ++ replicate (304 - length (f ++ float_bytes (xs ++ ys))) 0
-made f at n xs ys {b₁} {b₂} {b₃} k l p q r =
+pub made : (w n : ℕ) (xs ys : List Float) {b₁ b₂ b₃ : List ℕ} → length xs ≡ n
+    → b₁ ≡ laid_inside 0 (le_bytes 8 w) (replicate 304 0) → b₂ ≡ laid 8 (float_bytes xs) b₁ → b₃ ≡ laid (8 + 8 * n) (float_bytes ys) b₂
+    → b₃ ≡ (le_bytes 8 w ++ float_bytes (xs ++ ys)) ++ replicate (304 - length (le_bytes 8 w ++ float_bytes (xs ++ ys))) 0
+made w n xs ys {b₁} {b₂} {b₃} l p q r =
     let z : List ℕ = replicate 304 0 in
+    let f = le_bytes 8 w in
+    let k = length-le_bytes 8 w in
     let m = length-float_bytes xs in
-    let g₂ = laid_then 0 at f (float_bytes xs) z (omega arith) p (omega arith) q in
-    let e : at + 8 * n ≡ 0 + length (f ++ float_bytes xs) = simp (length-append, m) (omega arith) in
-    let g₃ = laid_then 0 (at + 8 * n) (f ++ float_bytes xs) (float_bytes ys) z (omega arith) g₂ e r in
+    let g₁ = p ∙ laid-inside 0 f z (omega arith) in
+    let g₂ = laid_then 0 8 f (float_bytes xs) z (omega arith) g₁ (omega arith) q in
+    let e : 8 + 8 * n ≡ 0 + length (f ++ float_bytes xs) = simp (length-append, k, m, l) (omega arith) in
+    let g₃ = laid_then 0 (8 + 8 * n) (f ++ float_bytes xs) (float_bytes ys) z (omega arith) g₂ e r in
     let j : f ++ float_bytes xs ++ float_bytes ys ≡ f ++ float_bytes (xs ++ ys) = append_assoc f (float_bytes xs) (float_bytes ys) ∙ simp (float_bytes-append xs ys) in
     g₃ ∙ ap (λ (b : List ℕ). laid 0 b z) j ∙ laid-front (f ++ float_bytes (xs ++ ys)) z
     ∙ ap (λ (t : List ℕ). (f ++ float_bytes (xs ++ ys)) ++ t) (drop-zeros (length (f ++ float_bytes (xs ++ ys))) 304)

@@ -1,39 +1,37 @@
--- The bytes of a body, by its layout. Definitions only. Assumes nothing.
+-- The bytes of a body. Definitions only. Assumes nothing.
 --
 -- offset  bytes  what
 -- 0       1      kind: 0 non-resonant, 1 one-day, 2 half-day
 -- 1       1      AFSPC flag, 0 or 1
 -- 2       6      zero
--- 8       8 each the numbers of the constants by their bits, in the order of crate constants_list: 21, 26 or 34 by the kind
+-- 8       8 each the numbers of the constants by their bits, in the order of crate record: 21, 26 or 34 by the kind
 -- 216     24     kind 1: the state's time, mean motion and lambda
 -- 280     24     kind 2: the same
 --
--- So a body of version 1 has 176, 240 or 304 bytes. It may start at any address.
+-- So a body has 176, 240 or 304 bytes. It may start at any address.
 use Rattle.std.specs.Prelude.{ℕ, ◌+◌, ◌*◌, Bool, cond, List, [], ◌∷◌, ◌++◌, eqb, take, Float}
 use Rattle.orbit.specs.declared.propagator.Constants.{Constants}
-use Rattle.constants_list.specs.Numbers.{kind_of, numbers_of}
+use Rattle.record.specs.Record.{kind_of, numbers_of}
+use Rattle.resonance.specs.declared.state.ResonanceState.{ResonanceState}
 use Rattle.resonance.specs.declared.state.MaybeState.{MaybeState}
 use Rattle.resonance.specs.declared.state.MaybeState.TheVariants.{None, Some}
 use Rattle.body.specs.Floats.{float_bytes}
-use Rattle.body.specs.declared.held.Held.{Held}
-use Rattle.body.specs.declared.layout.Layout.{Layout}
-use Rattle.body.specs.declared.layout.Layout.TheVariants.{One}
 
 -- where the numbers begin
-abbrev pub numbers_start : Layout → ℕ
-numbers_start One = 8
+abbrev pub numbers_start : ℕ
+numbers_start = 8
 
 -- how many numbers the constants of a kind have
 abbrev pub number_count : ℕ → ℕ
 number_count kind = cond (eqb kind 0) 21 (cond (eqb kind 1) 26 34)
 
 -- where the state of a body begins, or its end where it has none
-abbrev pub state_start : Layout → ℕ → ℕ
-state_start l kind = numbers_start l + 8 * number_count kind
+abbrev pub state_start : ℕ → ℕ
+state_start kind = numbers_start + 8 * number_count kind
 
 -- the length of a body: 176, 240 or 304
-abbrev pub size_of : Layout → ℕ → ℕ
-size_of l kind = cond (eqb kind 0) (state_start l kind) (state_start l kind + 24)
+abbrev pub size_of : ℕ → ℕ
+size_of kind = cond (eqb kind 0) (state_start kind) (state_start kind + 24)
 
 -- the longest of them
 abbrev pub longest : ℕ
@@ -49,22 +47,14 @@ leading kind afspc = kind ∷ cond afspc 1 0 ∷ 0 ∷ 0 ∷ 0 ∷ 0 ∷ 0 ∷ 0
 abbrev pub first_word : ℕ → Bool → ℕ
 first_word kind afspc = cond afspc (kind + 256) kind
 
--- what stands before the numbers
-abbrev pub front : Layout → Constants → List ℕ
-front One c = leading (kind_of c.resonant) c.afspc_compatibility_mode
-
--- the numbers of the constants that their kind has
-abbrev pub own_numbers : Constants → List Float
-own_numbers c = take (number_count (kind_of c.resonant)) (numbers_of c)
-
 abbrev pub state_numbers : MaybeState → List Float
 state_numbers None = []
 state_numbers (Some z) = z.t ∷ z.mean_motion ∷ z.lambda ∷ []
 
 -- the numbers of a body: those of the constants, and then those of the state
-abbrev pub body_numbers : Held → List Float
-body_numbers h = own_numbers h.constants ++ state_numbers h.state
+abbrev pub body_numbers : Constants → MaybeState → List Float
+body_numbers c s = take (number_count (kind_of c.resonant)) (numbers_of c) ++ state_numbers s
 
 -- the body of constants with none or a state
-unfoldable pub body_of : Layout → Held → List ℕ
-body_of l h = front l h.constants ++ float_bytes (body_numbers h)
+unfoldable pub body_of : Constants → MaybeState → List ℕ
+body_of c s = leading (kind_of c.resonant) c.afspc_compatibility_mode ++ float_bytes (body_numbers c s)

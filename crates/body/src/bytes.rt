@@ -1,17 +1,18 @@
 // The bytes of a body.
 ghost use Rattle.std.specs.Prelude.{◌≡◌, ◌++◌, ◌+◌, ◌≤◌, ◌-◌, length, replicate};
 ghost use Rattle.contents.specs.Laid.{laid};
-ghost use Rattle.constants_list.specs.Numbers.{kind_of};
+ghost use Rattle.record.specs.Record.{kind_of};
 ghost use Rattle.body.specs.Floats.{float_bytes};
-ghost use Rattle.body.specs.Body.{longest, number_count, first_word, front, state_numbers, body_of};
+ghost use Rattle.body.specs.Body.{longest, number_count, first_word, state_numbers, body_of};
 
 use crate::floats_at::put_floats;
-use crate::held::Held;
-use crate::layout::Layout;
-use constants_list::{kind_of, numbers_of};
 use contents::little_endian::put_u64;
 use orbit::propagator::Constants;
+use record::{kind_of, numbers_of};
 use resonance::state::MaybeState;
+
+// Where the numbers of a body begin.
+pub(crate) const NUMBERS: usize = 8;
 
 // How many numbers the constants of a kind have.
 pub(crate) fn number_count(kind: u32) -> usize
@@ -35,14 +36,6 @@ fn first_word(c: Constants) -> u64
         return kind + 256;
     }
     kind
-}
-
-// Writes what stands before the numbers.
-fn put_front(out: &mut [u8], layout: Layout, c: Constants)
-    requires { 8 ≤ length out.old }
-    ensures { out.new ≡ laid 0 (front layout c) out.old }
-{
-    put_u64(out, 0, first_word(c));
 }
 
 // How many numbers a state has, if there is one.
@@ -70,27 +63,21 @@ fn put_state(out: &mut [u8], at: usize, s: MaybeState)
 }
 
 // The length of the body of constants with none or a state.
-pub fn body_size(layout: Layout, held: Held) -> usize
-    ensures { result ≡ length (body_of layout held) }
+pub fn body_size(c: Constants, s: MaybeState) -> usize
+    ensures { result ≡ length (body_of c s) }
 {
-    let c = held.constants;
-    let s = held.state;
-    let n = number_count(kind_of(c)) + state_count(s);
-    layout.numbers_start() + 8 * n
+    NUMBERS + 8 * (number_count(kind_of(c)) + state_count(s))
 }
 
 // That body, and zeros past it.
-pub fn body_of(layout: Layout, held: Held) -> [u8; 304]
-    ensures { result ≡ body_of layout held ++ replicate (longest - length (body_of layout held)) 0 }
+pub fn body_of(c: Constants, s: MaybeState) -> [u8; 304]
+    ensures { result ≡ body_of c s ++ replicate (longest - length (body_of c s)) 0 }
 {
-    let c = held.constants;
-    let s = held.state;
     let mut b = [0u8; 304];
     let n = number_count(kind_of(c));
     let x = numbers_of(c);
-    let at = layout.numbers_start();
-    put_front(&mut b, layout, c);
-    put_floats(&mut b, at, &x[0..n]);
-    put_state(&mut b, at + 8 * n, s);
+    put_u64(&mut b, 0, first_word(c));
+    put_floats(&mut b, NUMBERS, &x[0..n]);
+    put_state(&mut b, NUMBERS + 8 * n, s);
     b
 }

@@ -15,7 +15,7 @@ pub fn f64_at(s: &[u8], at: usize) -> f64
 
 // The 34 floats from `at` on.
 pub(crate) fn floats_34(s: &[u8], at: usize) -> [f64; 34]
-    requires { at ≤ 512 }
+    requires { at ≤ 8 }
     ensures { result ≡ floats 34 at s.now }
 {
     let mut x = [0.0; 34];

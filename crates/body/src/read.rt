@@ -1,42 +1,39 @@
 // A body that is read: bytes from disk are strangers until they pass.
 ghost use Rattle.std.specs.Prelude.{◌≡◌, ◌≤◌};
 ghost use Rattle.body.specs.Body.{size_of, state_start};
-ghost use Rattle.body.specs.Read.{shaped, state_at, state_in, body_read};
+ghost use Rattle.body.specs.Read.{shaped, state_at, held_at, body_read};
 
-use crate::bytes::number_count;
-use crate::examine::{Body, BodyFault, examine};
+use crate::bytes::{NUMBERS, number_count};
+use crate::examine::{Body, examine};
 use crate::floats_at::{f64_at, floats_34};
-use crate::held::Held;
-use crate::layout::Layout;
-use constants_list::constants_of;
+use record::constants_of;
 use resonance::state::{MaybeState, ResonanceState};
 
 // Where the state of a body begins, or its end where it has none.
-pub fn state_start(layout: Layout, kind: u32) -> usize
-    ensures { result ≡ state_start layout kind }
+pub fn state_start(kind: u32) -> usize
+    ensures { result ≡ state_start kind }
 {
-    let n = number_count(kind);
-    layout.numbers_start() + 8 * n
+    NUMBERS + 8 * number_count(kind)
 }
 
 // The length of a body of a kind.
-fn size_of(layout: Layout, kind: u32) -> usize
-    ensures { result ≡ size_of layout kind }
+fn size_of(kind: u32) -> usize
+    ensures { result ≡ size_of kind }
 {
     if kind == 0 {
-        return state_start(layout, kind);
+        return state_start(kind);
     }
-    state_start(layout, kind) + 24
+    state_start(kind) + 24
 }
 
 // Whether length, kind, flag and zero bytes are right.
-pub fn is_shaped(layout: Layout, body: &[u8]) -> bool
-    ensures { result ≡ shaped layout body.now }
+pub fn is_shaped(body: &[u8]) -> bool
+    ensures { result ≡ shaped body.now }
 {
     if body.len() < 8 {
         return false;
     }
-    let size = size_of(layout, body[0] as u32);
+    let size = size_of(body[0] as u32);
     (body.len() == size)
         & (body[0] <= 2)
         & (body[1] <= 1)
@@ -50,7 +47,7 @@ pub fn is_shaped(layout: Layout, body: &[u8]) -> bool
 
 // The state whose three numbers stand from `at` on.
 fn state_at(body: &[u8], at: usize) -> ResonanceState
-    requires { at ≤ 512 }
+    requires { at ≤ 280 }
     ensures { result ≡ state_at at body.now }
 {
     ResonanceState {
@@ -61,25 +58,24 @@ fn state_at(body: &[u8], at: usize) -> ResonanceState
 }
 
 // The state of a body of a kind, and none of a non-resonant one.
-fn state_in(layout: Layout, body: &[u8], kind: u32) -> MaybeState
-    ensures { result ≡ state_in layout kind body.now }
+fn held_at(body: &[u8], kind: u32) -> MaybeState
+    ensures { result ≡ held_at kind body.now }
 {
     if kind == 0 {
         return MaybeState::None;
     }
-    MaybeState::Some(state_at(body, state_start(layout, kind)))
+    MaybeState::Some(state_at(body, state_start(kind)))
 }
 
 // What a body says, where it passes 16, 17 and 18.
-pub fn read_body(layout: Layout, body: &[u8]) -> Body
-    ensures { result ≡ body_read layout body.now }
+pub fn read_body(body: &[u8]) -> Body
+    ensures { result ≡ body_read body.now }
 {
-    if !is_shaped(layout, body) {
-        return Body::Refused(BodyFault::Wrong);
+    if !is_shaped(body) {
+        return Body::Wrong;
     }
     let kind = body[0] as u32;
-    let x = floats_34(body, layout.numbers_start());
-    let constants = constants_of(kind, body[1] == 1, &x);
-    let state = state_in(layout, body, kind);
-    examine(Held { constants, state })
+    let x = floats_34(body, NUMBERS);
+    let c = constants_of(kind, body[1] == 1, &x);
+    examine(c, held_at(body, kind))
 }

@@ -55,12 +55,12 @@ g422 e =
     (cubic e (⊝ dec 146407 3) (dec 84188 2) (dec 1629014 3) (dec 1083435 3))
     (cubic e (⊝ dec 358169 2) (dec 1617811 2) (dec 2446277 2) (dec 1242252 2))
 
--- G₅₂₀: one cubic for e <= 0.65, a quadratic up to 0.715 and at it, as the published routine has it, and the last polynomial above
+-- G₅₂₀: one cubic for e <= 0.65, a quadratic below 0.715, and the last polynomial at 0.715 exactly and above
 unfoldable pub g520 : Float → Float
 g520 e =
     cond (up_to65 e)
     (cubic e (⊝ dec 532114 3) (dec 3017977 3) (dec 5740032 3) (dec 3708276 3))
-    (cond (le e (dec 715 3))
+    (cond (lt e (dec 715 3))
     (quadratic e (dec 146474 2) (dec 466475 2) (dec 376364 2))
     (cubic e (⊝ dec 514966 2) (dec 2993692 2) (dec 5408736 2) (dec 3132456 2)))
 

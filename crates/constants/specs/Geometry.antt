@@ -3,11 +3,11 @@ use Rattle.std.specs.Prelude.{ℕ, Bool, true, false, cond, ◌&&◌, Float}
 use Rattle.std.specs.Float.Ieee.Scale.{finite}
 use Rattle.floats.specs.Rounded.{◌⊕◌, ◌⊖◌, ◌⊗◌, ◌⊘◌, ◌rem◌, ⊝◌, dec}
 use Rattle.floats.specs.Power.{sq}
-use Rattle.roots.specs.Root.{sqrt_of}
+use Rattle.floats.specs.Root.{sqrt_of}
 use Rattle.floats.specs.Trig.{wave_of}
 use Rattle.floats.specs.Atan.{arc_of}
-use Rattle.roots.specs.declared.root.Root.{Root}
-use Rattle.roots.specs.declared.root.Root.TheVariants.{Of as root, Outside as no-root}
+use Rattle.floats.specs.declared.root.Root.{Root}
+use Rattle.floats.specs.declared.root.Root.TheVariants.{Of as root, Outside as no-root}
 use Rattle.floats.specs.declared.trig.Wave.{Wave}
 use Rattle.orbit.specs.Model.{tau}
 use Rattle.constants.specs.declared.geometry.ThirdBody.{ThirdBody}

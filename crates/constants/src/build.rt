@@ -1,6 +1,6 @@
 // The build: from the numbers given to the constants of an orbit, or a refusal.
 ghost use Rattle.std.specs.Prelude.{◌≡◌};
-ghost use Rattle.constants.specs.Build.{all_finite, one_day_resonant, half_day_resonant, kind_of, constants_of, built_of, number as built_number};
+ghost use Rattle.constants.specs.Build.{all_finite, one_day_resonant, half_day_resonant, kind_of, constants_of, built_of};
 
 use crate::given::{Dots, Given, sum};
 use crate::longitude::{
@@ -19,20 +19,6 @@ pub enum Built {
     NumberNotFinite, // refusal 3
     AngleOutside, // refusal 9
     NotFinite, // refusal 13
-}
-
-impl Built {
-    // The refusal's number, 0 where there is a build.
-    pub fn number(self) -> u32
-        ensures { result ≡ built_number self }
-    {
-        match self {
-            Built::Of(_) => 0,
-            Built::NumberNotFinite => 3,
-            Built::AngleOutside => 9,
-            Built::NotFinite => 13,
-        }
-    }
 }
 
 // The kind that the constants carry, unless it needs a sine that is refused.

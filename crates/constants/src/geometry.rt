@@ -1,14 +1,14 @@
 // Solar and lunar geometry: what `constants` of deep_space.rs passes to third_body for the Sun and
 // for the Moon, beside the numbers that are constants of the Rust.
 ghost use Rattle.std.specs.Prelude.{◌≡◌};
-ghost use Rattle.constants.specs.Geometry.{days, solar_mean_anomaly, lunar_mean_anomaly, lunar_epsilon, inclination_cosine as inclination_cosine_of, complement as complement_of, node_sine, plane_of, tilt_of, perigee, sun, moon, finite_body, bodies_of, placed_of, geometry_of, number as geometry_number};
+ghost use Rattle.constants.specs.Geometry.{days, solar_mean_anomaly, lunar_mean_anomaly, lunar_epsilon, inclination_cosine as inclination_cosine_of, complement as complement_of, node_sine, plane_of, tilt_of, perigee, sun, moon, finite_body, bodies_of, placed_of, geometry_of};
 
 use floats::atan::atan2;
 use floats::finite::is_finite;
 use floats::power::square;
+use floats::root::{Root, sqrt};
 use floats::trig::{Wave, sines};
 use orbit::model::TAU;
-use roots::root::{Root, sqrt};
 
 // A third body: sine and cosine of its inclination, of Ω₀ less its node, and of its argument of
 // perigee; its mean anomaly in rad.
@@ -37,20 +37,6 @@ pub enum Geometry {
     NumberNotFinite, // refusal 3
     AngleOutside, // refusal 9
     NotFinite, // refusal 13
-}
-
-impl Geometry {
-    // The refusal's number, 0 where there is a geometry.
-    pub fn number(self) -> u32
-        ensures { result ≡ geometry_number self }
-    {
-        match self {
-            Geometry::Of(_) => 0,
-            Geometry::NumberNotFinite => 3,
-            Geometry::AngleOutside => 9,
-            Geometry::NotFinite => 13,
-        }
-    }
 }
 
 // How the Moon's orbit lies: sine and cosine of its inclination Iₗ and of its node Ωₗ.

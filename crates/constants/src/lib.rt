@@ -1,4 +1,5 @@
 // The constants of an orbit: solar and lunar geometry, and the build. `constants` of deep_space.rs.
+#![tactic(auto)]
 pub mod build;
 pub mod geometry;
 pub mod given;

@@ -7,15 +7,15 @@ use Rattle.contents.specs.LittleEndian.{le, le_bytes}
 use Rattle.contents.specs.Format.{count, header_right, contents_right, follows, chained, entries}
 use Rattle.contents.specs.Records.{file_of, put, header, contents, entry_bytes, bodies}
 use Rattle.contents.specs.Find.{sought, found_in}
-use Rattle.contents.specs.Splice.{spliced_file, spliced}
+use Rattle.contents.specs.Save.{saved_file, saved}
 use Rattle.contents.specs.Examples.{empty, seven, Empty}
 use Rattle.contents.specs.declared.find.Found.TheVariants.{Body}
 
-the-file : (b : List ℕ) → length b ≡ 176 → spliced_file empty 7 b ≡ seven ++ b
+the-file : (b : List ℕ) → length b ≡ 176 → saved_file empty 7 b ≡ seven ++ b
 unfolding file_of put header contents entry_bytes bodies le le_bytes entries
 the-file b h = simp (h, append-nil)
 
-the-length : (b : List ℕ) → length b ≡ 176 → length (spliced_file empty 7 b) ≡ 196
+the-length : (b : List ℕ) → length b ≡ 176 → length (saved_file empty 7 b) ≡ 196
 the-length b h = ap length (the-file b h) ∙ simp h
 
 the-count : (b : List ℕ) → count (seven ++ b) ≡ 1
@@ -27,7 +27,7 @@ unfolding contents_right header_right follows chained entries sought found_in le
 the-body b h = simp h
 
 pub empty-file : Empty
-unfolding contents_right header_right chained entries sought found_in le spliced put
+unfolding contents_right header_right chained entries sought found_in le saved put
 empty-file =
     record {
       right = refl;

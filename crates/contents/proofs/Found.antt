@@ -12,11 +12,10 @@ use Rattle.contents.specs.Records.{record_of, body_among}
 use Rattle.contents.specs.Find.{sought, found_in, bytes_at, counted_in, FindsBodies, FoundAt, FoundInside}
 use Rattle.contents.specs.declared.format.Entry.{Entry}
 use Rattle.contents.specs.declared.find.Found.{Found}
-use Rattle.contents.specs.declared.fault.FileFault.TheVariants.{FileWrong, SatelliteMissing}
-use Rattle.contents.specs.declared.find.Found.TheVariants.{Refused, Body}
+use Rattle.contents.specs.declared.find.Found.TheVariants.{FileWrong, SatelliteMissing, Body}
 use Rattle.contents.specs.declared.find.Counted.TheVariants as C
 use Rattle.contents.proofs.format.Laws.{right}
-use Rattle.contents.proofs.splice.Split.{tests, chain}
+use Rattle.contents.proofs.save.Split.{tests, chain}
 
 sought-body : (s : List ℕ) (x : ℕ) (es : List Entry) → bytes_at s (sought x es) ≡ body_among x (map (record_of s) es)
 unfolding sought body_among
@@ -30,20 +29,21 @@ sought-body s x (e ∷ es) = pick (eqb e.satellite x) (sought-body s x es)
     pick false h = h
 
 -- no record, no body
-sought-missing : (s : List ℕ) (x : ℕ) (es : List Entry) → body_among x (map (record_of s) es) ≡ none → sought x es ≡ Refused SatelliteMissing
+sought-missing : (s : List ℕ) (x : ℕ) (es : List Entry) → body_among x (map (record_of s) es) ≡ none → sought x es ≡ SatelliteMissing
 unfolding sought body_among
 sought-missing s x [] h = refl
 sought-missing s x (e ∷ es) h = pick (eqb e.satellite x) (sought-missing s x es) h
   where
-    pick : (t : Bool) → (body_among x (map (record_of s) es) ≡ none → sought x es ≡ Refused SatelliteMissing)
+    pick : (t : Bool) → (body_among x (map (record_of s) es) ≡ none → sought x es ≡ SatelliteMissing)
         → cond t (some (take e.size (drop e.offset s))) (body_among x (map (record_of s) es)) ≡ none
-        → cond t (Body e.offset e.size) (sought x es) ≡ Refused SatelliteMissing
+        → cond t (Body e.offset e.size) (sought x es) ≡ SatelliteMissing
     pick true i k = let z : ◌≡◌ {A = ℕ} 0 1 = cc in absurd (omega arith)
     pick false i k = i k
 
 -- where a body ends that was found
 abbrev reach : Found → ℕ
-reach (Refused f) = 0
+reach FileWrong = 0
+reach SatelliteMissing = 0
 reach (Body o n) = o + n
 
 sought-inside : (s : List ℕ) (x : ℕ) (es : List Entry) (least at : ℕ) → chained (length s) least at es ≡ true → reach (sought x es) ≤ length s
@@ -65,7 +65,7 @@ in_right : (s : List ℕ) (x : ℕ) → contents_right s ≡ true → found_in s
 unfolding found_in
 in_right s x h = simp h
 
-in-wrong : (s : List ℕ) (x : ℕ) → contents_right s ≡ false → found_in s x ≡ Refused FileWrong
+in-wrong : (s : List ℕ) (x : ℕ) → contents_right s ≡ false → found_in s x ≡ FileWrong
 unfolding found_in
 in-wrong s x h = simp h
 
@@ -99,6 +99,6 @@ counted-most s n h = go (contents_right s) refl
         let f = (right s e).few in
         omega arith
     go false e =
-        let k : counted_in s ≡ C.Refused FileWrong = unfold counted_in in simp e in
+        let k : counted_in s ≡ C.FileWrong = unfold counted_in in simp e in
         let z : ◌≡◌ {A = ℕ} 0 1 = cc in
         absurd (omega arith)

@@ -1,4 +1,3 @@
-pub mod Clash
 pub mod Le
 pub mod Laid
 pub mod Records

@@ -12,9 +12,9 @@ use Rattle.contents.specs.Records.{records_of, bodies, contents, entry_bytes, he
 use Rattle.contents.specs.Table.{table}
 use Rattle.contents.specs.Kept.{Rebuilds}
 use Rattle.contents.proofs.format.Laws.{right, headed, Headed}
-use Rattle.contents.proofs.splice.Laws.{length-entries}
-use Rattle.contents.proofs.splice.Split.{chain, tests}
-use Rattle.contents.proofs.splice.New.{contents-table}
+use Rattle.contents.proofs.save.Laws.{length-entries}
+use Rattle.contents.proofs.save.Split.{chain, tests}
+use Rattle.contents.proofs.save.New.{contents-table}
 
 bytes_drop : (k : ℕ) (s : List ℕ) → Bytes s → Bytes (drop k s)
 bytes_drop k s h = λ i. rw get_or-drop (h (k + i))

@@ -15,7 +15,7 @@ use Rattle.contents.specs.Records.{Rec, record_of, records_of, body_among, put, 
 use Rattle.contents.specs.declared.format.Entry.{Entry}
 use Rattle.contents.proofs.Le.{length-le_bytes, le-le_bytes, le-lt}
 use Rattle.contents.proofs.format.Laws.{both, follows-parts, magic-number}
-use Rattle.contents.proofs.splice.Laws.{length-entry_bytes}
+use Rattle.contents.proofs.save.Laws.{length-entry_bytes}
 
 -- ---- records with one put among them
 

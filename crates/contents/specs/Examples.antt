@@ -2,10 +2,9 @@
 use Rattle.std.specs.Prelude.{ℕ, ◌≡◌, true, List, [], ◌∷◌, ◌++◌, length}
 use Rattle.contents.specs.Format.{count, contents_right}
 use Rattle.contents.specs.Find.{found_in}
-use Rattle.contents.specs.Splice.{spliced_file, spliced}
-use Rattle.contents.specs.declared.fault.FileFault.TheVariants.{SatelliteMissing, OutputShort}
-use Rattle.contents.specs.declared.find.Found.TheVariants.{Refused, Body}
-use Rattle.contents.specs.declared.splice.Spliced.TheVariants as S
+use Rattle.contents.specs.Save.{saved_file, saved}
+use Rattle.contents.specs.declared.find.Found.TheVariants.{SatelliteMissing, Body}
+use Rattle.contents.specs.declared.save.Saved.TheVariants.{OutputShort, Written}
 
 -- the empty file, whole
 abbrev pub empty : List ℕ
@@ -22,10 +21,10 @@ seven =
 pub record Empty : Type 0 where
   pub right : contents_right empty ≡ true
   pub none : count empty ≡ 0
-  pub missing : (x : ℕ) → found_in empty x ≡ Refused SatelliteMissing
-  pub file : (b : List ℕ) → length b ≡ 176 → spliced_file empty 7 b ≡ seven ++ b
-  pub size : (b : List ℕ) → length b ≡ 176 → length (spliced_file empty 7 b) ≡ 196
-  pub written : (b : List ℕ) → length b ≡ 176 → spliced empty 7 b 196 ≡ S.Written 196
-  pub short : (b : List ℕ) → length b ≡ 176 → spliced empty 7 b 195 ≡ S.Refused OutputShort
-  pub one : (b : List ℕ) → length b ≡ 176 → count (spliced_file empty 7 b) ≡ 1
-  pub found : (b : List ℕ) → length b ≡ 176 → found_in (spliced_file empty 7 b) 7 ≡ Body 20 176
+  pub missing : (x : ℕ) → found_in empty x ≡ SatelliteMissing
+  pub file : (b : List ℕ) → length b ≡ 176 → saved_file empty 7 b ≡ seven ++ b
+  pub size : (b : List ℕ) → length b ≡ 176 → length (saved_file empty 7 b) ≡ 196
+  pub written : (b : List ℕ) → length b ≡ 176 → saved empty 7 b 196 ≡ Written 196
+  pub short : (b : List ℕ) → length b ≡ 176 → saved empty 7 b 195 ≡ OutputShort
+  pub one : (b : List ℕ) → length b ≡ 176 → count (saved_file empty 7 b) ≡ 1
+  pub found : (b : List ℕ) → length b ≡ 176 → found_in (saved_file empty 7 b) 7 ≡ Body 20 176

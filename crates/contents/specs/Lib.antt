@@ -1,10 +1,9 @@
 pub mod LittleEndian
-pub mod Fault
 pub mod Laid
 pub mod Format
 pub mod Records
 pub mod Find
-pub mod Splice
+pub mod Save
 pub mod Table
 pub mod Kept
 pub mod Examples

@@ -1,9 +1,9 @@
--- What the parts of a splice do, over the entries of the old file. Definitions only. Assumes nothing.
+-- What the parts of a save do, over the entries of the old file. Definitions only. Assumes nothing.
 use Rattle.std.specs.Prelude.{ℕ, ◌+◌, ◌*◌, ◌-◌, cond, List, [], ◌∷◌, ◌++◌, eqb, ltb, take, drop}
 use Rattle.contents.specs.Format.{entries, contents_end}
 use Rattle.contents.specs.Records.{entry_bytes}
 use Rattle.contents.specs.declared.format.Entry.{Entry}
-use Rattle.contents.specs.declared.splice.Place.{Place}
+use Rattle.contents.specs.declared.save.Place.{Place}
 
 -- the entries' bytes with new offsets, the first body at `at`
 unfoldable pub table : ℕ → List Entry → List ℕ

@@ -1,71 +1,38 @@
 // What a store file has: the search for a satellite's body, and the list of its satellites.
 ghost use Rattle.std.specs.Prelude.{◌≡◌, ◌≤◌, length, drop};
 ghost use Rattle.contents.specs.Format.{most, entries, contents_end};
-ghost use Rattle.contents.specs.Find.{found_number, counted_number, listed_number, sought, found_in, counted_in, listed_in};
+ghost use Rattle.contents.specs.Find.{sought, found_in, counted_in, listed_in};
 
-use crate::fault::FileFault;
 use crate::format::{entry_at, is_right};
 use crate::little_endian::{u16_at, u32_at};
 
 // A satellite in a file, and where its body is.
 #[derive(Drop)]
 pub enum Found {
-    // 14, 15
-    Refused(FileFault),
+    // refusal 14
+    FileWrong,
+    // refusal 15
+    SatelliteMissing,
     // its offset and its length
     Body(usize, usize),
-}
-
-impl Found {
-    // The refusal's number, and 0 where there is a body.
-    pub fn number(self) -> u32
-        ensures { result ≡ found_number self }
-    {
-        match self {
-            Found::Refused(fault) => fault.number(),
-            Found::Body(_, _) => 0,
-        }
-    }
 }
 
 // How many records a file has.
 #[derive(Drop)]
 pub enum Counted {
-    // 14
-    Refused(FileFault),
+    // refusal 14
+    FileWrong,
     Records(usize),
-}
-
-impl Counted {
-    // The refusal's number, and 0 where the records were counted.
-    pub fn number(self) -> u32
-        ensures { result ≡ counted_number self }
-    {
-        match self {
-            Counted::Refused(fault) => fault.number(),
-            Counted::Records(_) => 0,
-        }
-    }
 }
 
 // A satellite in a file, by its place among them.
 #[derive(Drop)]
 pub enum Listed {
-    // 14, or 15 where the file has no such record
-    Refused(FileFault),
+    // refusal 14
+    FileWrong,
+    // refusal 15: the file has no such record
+    PastEnd,
     Satellite(u32),
-}
-
-impl Listed {
-    // The refusal's number, and 0 where there is such a record.
-    pub fn number(self) -> u32
-        ensures { result ≡ listed_number self }
-    {
-        match self {
-            Listed::Refused(fault) => fault.number(),
-            Listed::Satellite(_) => 0,
-        }
-    }
 }
 
 // The body of a satellite, by the first of n entries that has it.
@@ -83,7 +50,7 @@ fn find_entry(file: &[u8], n: usize, satellite: u32) -> Found
         at = at + 12;
         left = left - 1;
     }
-    Found::Refused(FileFault::SatelliteMissing)
+    Found::SatelliteMissing
 }
 
 // Where the body of a satellite is in a file.
@@ -91,7 +58,7 @@ pub fn find(file: &[u8], satellite: u32) -> Found
     ensures { result ≡ found_in file.now satellite }
 {
     if !is_right(file) {
-        return Found::Refused(FileFault::FileWrong);
+        return Found::FileWrong;
     }
     let n = u16_at(file, 6) as usize;
     find_entry(file, n, satellite)
@@ -102,7 +69,7 @@ pub fn record_count(file: &[u8]) -> Counted
     ensures { result ≡ counted_in file.now }
 {
     if !is_right(file) {
-        return Counted::Refused(FileFault::FileWrong);
+        return Counted::FileWrong;
     }
     Counted::Records(u16_at(file, 6) as usize)
 }
@@ -112,11 +79,11 @@ pub fn satellite_at(file: &[u8], i: usize) -> Listed
     ensures { result ≡ listed_in file.now i }
 {
     if !is_right(file) {
-        return Listed::Refused(FileFault::FileWrong);
+        return Listed::FileWrong;
     }
     let n = u16_at(file, 6) as usize;
     if n <= i {
-        return Listed::Refused(FileFault::SatelliteMissing);
+        return Listed::PastEnd;
     }
     Listed::Satellite(u32_at(file, 8 + 12 * i))
 }

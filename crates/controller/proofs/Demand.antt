@@ -4,9 +4,9 @@ use mathlib.Core.Path.{◌≡◌, refl, sym, ap, ◌∙◌, subst}
 use Prim.Native.Nat.{ℕ, zero, suc, ◌≤◌, ◌^◌}
 use mathlib.Core.Bool.{Bool, true, false, not, cond, ◌&&◌, false≢true}
 use mathlib.Core.List.{List, [], ◌∷◌}
-use lib.Dec.{T, eqb→eq, lit≤}
+use lib.Dec.{T, eqb, eqb→eq, lit≤}
 use lib.Ieee.{Float, binary64, fits, to_bits, of_bits}
-use lib.Ieee.Bits.{of_bits-to_bits}
+use lib.Ieee.Bits.{of_bits-to_bits, of_bits-fits}
 use lib.Ieee.Fits.{add-fits, and_l, and_r}
 use lib.Ieee.Scale.{finite}
 use Rattle.floats.specs.Value.{same_bits, at_most, negative, is_zero}
@@ -27,50 +27,59 @@ use Rattle.resonance.specs.declared.ask.Answer.{Answer}
 use Rattle.resonance.specs.declared.ask.Answer.TheVariants.{Refused, Reached}
 use Rattle.resonance.specs.declared.ask.StateAsked.{StateAsked}
 use Rattle.resonance.specs.declared.ask.Asked.{Asked}
-use Rattle.times.specs.Time.{limit, steps_in, back, zero_time, placed, multiple, refusal}
+use Rattle.times.specs.Time.{limit, number, back, zero_time, placed, multiple, refusal}
 use Rattle.resonance.specs.State.{fresh_of, fresh_by, fresh, finite_state, same_state, step_of, integrator}
 use Rattle.resonance.specs.Advance.{steps, agrees, replay_of}
 use Rattle.resonance.specs.Ask.{numbers_refusal, given_back, advanced_by, resonant_ask, kind_ask, checked_ask, plain_ask, checked_none, state_ask_of, none_ask_of, held, ask_of}
-use Rattle.body.specs.Body.{own_numbers, state_numbers}
-use Rattle.body.specs.Examine.{replayed_by}
-use Rattle.body.specs.Read.{body_read}
-use Rattle.body.specs.Back.{OfFormat}
-use Rattle.body.specs.declared.layout.Layout.{Layout}
-use Rattle.body.specs.declared.examine.Body.{Body}
-use Rattle.body.specs.declared.examine.Body.TheVariants as B
-use Rattle.body.proofs.Passes.{passes}
-use Rattle.body.proofs.Sound.{read-sound, fresh-format, format-rest}
-use Rattle.controller.specs.Demand.{Event, asks, resets, restores, keeps, Session, time_after, after_restore, stored_time, happen, run, start, GoodBy, Good, Demand3}
+use Rattle.record.specs.Record.{constants_of, resonant_of, one_day_of, half_day_of}
+use Rattle.body.specs.Floats.{float_at, floats}
+use Rattle.body.specs.Body.{state_start}
+use Rattle.body.specs.Examine.{replayed as replayedOf}
+use Rattle.body.specs.Read.{kind_in, constants_in, state_at, held_at}
+use Rattle.body.proofs.Passes.{read-passes}
+use Rattle.store.proofs.Kept.{restored-read}
+use Rattle.store.specs.declared.restore.Restored.{Restored}
+use Rattle.store.specs.declared.restore.Restored.TheVariants as R
+use Rattle.store.specs.Restore.{restored_from}
+use Rattle.controller.specs.Running.{restored_by}
+use Rattle.controller.specs.Demand.{Event, asks, saves, resets, restores, Session, time_after, after_restore, stored_time, happen, run, start, GoodBy, Good, Demand3}
 use Rattle.times.proofs.Accepted.{accepted-most, number-most}
 use Rattle.resonance.proofs.Steps.{no-state, Moved, step_is, steps-keep}
 use Rattle.resonance.proofs.Walk.{advance-refused}
-use Rattle.stepping.proofs.Restart.{OnNode, resonant}
+use Rattle.controller.proofs.Restart.{OnNode, resonant}
 
 -- ---- states that a machine holds are equal where their bits are
 
-abbrev Formed : ResonanceState → Type 0
-Formed z = OfFormat (state_numbers (Some z))
+-- a state that a machine holds: its three numbers are floats of the format
+pub record Held (z : ResonanceState) : Type 0 where
+  pub time : T (fits binary64 z.t)
+  pub motion : T (fits binary64 z.mean_motion)
+  pub longitude : T (fits binary64 z.lambda)
+
+abbrev pub HeldMaybe : MaybeState → Type 0
+HeldMaybe None = Unit {0}
+HeldMaybe (Some z) = Held z
 
 bits-same : (x y : Float) → T (fits binary64 x) → T (fits binary64 y) → T (same_bits x y) → x ≡ y
 bits-same x y F G t = sym (of_bits-to_bits binary64 x F) ∙ ap (of_bits binary64) (eqb→eq (to_bits binary64 x) (to_bits binary64 y) t) ∙ of_bits-to_bits binary64 y G
 
-states-same : (s z : ResonanceState) → Formed s → Formed z → T (same_state s z) → s ≡ z
+states-same : (s z : ResonanceState) → Held s → Held z → T (same_state s z) → s ≡ z
 states-same s z h k t =
     let a = same_bits s.t z.t in
     let b = same_bits s.mean_motion z.mean_motion in
     let d = same_bits s.lambda z.lambda in
-    let p : s.t ≡ z.t = bits-same s.t z.t h.0 k.0 (and_l a b (and_l (a && b) d t)) in
-    let q : s.mean_motion ≡ z.mean_motion = bits-same s.mean_motion z.mean_motion h.1.0 k.1.0 (and_r a b (and_l (a && b) d t)) in
-    let r : s.lambda ≡ z.lambda = bits-same s.lambda z.lambda h.1.1.0 k.1.1.0 (and_r (a && b) d t) in
+    let p : s.t ≡ z.t = bits-same s.t z.t h.time k.time (and_l a b (and_l (a && b) d t)) in
+    let q : s.mean_motion ≡ z.mean_motion = bits-same s.mean_motion z.mean_motion h.motion k.motion (and_r a b (and_l (a && b) d t)) in
+    let r : s.lambda ≡ z.lambda = bits-same s.lambda z.lambda h.longitude k.longitude (and_r (a && b) d t) in
     ap (λ (x : Float). record { t = x; mean_motion = s.mean_motion; lambda = s.lambda }) p
     ∙ ap (λ (x : Float). record { t = z.t; mean_motion = x; lambda = s.lambda }) q
     ∙ ap (λ (x : Float). record { t = z.t; mean_motion = z.mean_motion; lambda = x }) r
 
 -- a step gives floats of the format
-step-held : (i : Integrator) (b : Bool) (s n : ResonanceState) → step_of i b s ≡ Some n → Formed n
+step-held : (i : Integrator) (b : Bool) (s n : ResonanceState) → step_of i b s ≡ Some n → Held n
 step-held i b s n p =
     let m = step_is i b s n p in
-    subst Formed m.is (add-fits binary64 _ _, (add-fits binary64 _ _, (add-fits binary64 _ _, tt)))
+    subst Held m.is (record { time = add-fits binary64 _ _; motion = add-fits binary64 _ _; longitude = add-fits binary64 _ _ })
 
 -- ---- a resonant orbit
 
@@ -99,14 +108,14 @@ module _ (c : Constants) (lambda-0 lambda-dot-0 theta_0 : Float) (r : Resonance)
     resonant-after : After (resonant_ask c i theta_0 s q)
     resonant-after = go (refusal s.t q.t) refl
       where
-        passed : (a : StateAsked) (expected : Answer) → refusal s.t q.t ≡ Passed → OnNode a s expected (steps i (back q.t) (steps_in q.t) f) → (o : Answer) → a.answer ≡ o → GoodAt (Some a.state) (time_after T₀ q.t o)
+        passed : (a : StateAsked) (expected : Answer) → refusal s.t q.t ≡ Passed → OnNode a s expected (steps i (back q.t) (number q.t) f) → (o : Answer) → a.answer ≡ o → GoodAt (Some a.state) (time_after T₀ q.t o)
         passed a e p w (Refused g) k = subst (λ (x : ResonanceState). GoodAt (Some x) T₀) (sym (w.given g k)) good
         passed a e p w (Reached o) k = (accepted-most s.t q.t p, sym (w.state o k), some a.state)
 
         go : (x : Checked) → refusal s.t q.t ≡ x → After (resonant_ask c i theta_0 s q)
         go Passed p =
             let a = resonant_ask c i theta_0 s q in
-            passed a _ p (resonant c i c.orbit_0.mean_motion lambda-0 theta_0 q s (back T₀, steps_in T₀, good.0, good.1) p) a.answer refl
+            passed a _ p (resonant c i c.orbit_0.mean_motion lambda-0 theta_0 q s (back T₀, number T₀, good.0, good.1) p) a.answer refl
         go (refusedCheck g) p = subst After (refused-ask g p) good
           where
             refused-ask : (g : Fault) → refusal s.t q.t ≡ refusedCheck g → given_back g s ≡ resonant_ask c i theta_0 s q
@@ -121,18 +130,59 @@ module _ (c : Constants) (lambda-0 lambda-dot-0 theta_0 : Float) (r : Resonance)
         go Passed = subst (λ (x : Resonant). After (kind_ask c s q x)) (sym kind) resonant-after
 
   -- a state that passes 18
-  replayed : (z : ResonanceState) → Formed f → Formed z → (replay_of i c.orbit_0.mean_motion lambda-0 z).same ≡ true → GoodAt (Some z) z.t
+  replayed : (z : ResonanceState) → Held f → Held z → (replay_of i c.orbit_0.mean_motion lambda-0 z).same ≡ true → GoodAt (Some z) z.t
   unfolding replay_of
   replayed z hf hz p =
-      let o = steps i (back z.t) (steps_in z.t) f in
+      let o = steps i (back z.t) (number z.t) f in
       let t : T (placed z.t && agrees z o) = subst T (sym p) tt in
       let set : T (placed z.t) = and_l (placed z.t) (agrees z o) t in
       let near : T (at_most limit z.t) = and_r (multiple z.t) (at_most limit z.t) (and_l (multiple z.t && at_most limit z.t) (not (negative z.t && is_zero z.t)) set) in
       (number-most z.t near, go o refl (and_r (placed z.t) (agrees z o) t), some z)
     where
-      go : (o : MaybeState) → steps i (back z.t) (steps_in z.t) f ≡ o → T (agrees z o) → steps i (back z.t) (steps_in z.t) f ≡ Some z
+      go : (o : MaybeState) → steps i (back z.t) (number z.t) f ≡ o → T (agrees z o) → steps i (back z.t) (number z.t) f ≡ Some z
       go None e t = absurd t
-      go (Some x) e t = e ∙ ap Some (states-same x z (steps-keep i (back z.t) Formed (step-held i (back z.t)) (steps_in z.t) f x hf e) hz t)
+      go (Some x) e t = e ∙ ap Some (states-same x z (steps-keep i (back z.t) Held (step-held i (back z.t)) (number z.t) f x hf e) hz t)
+
+-- ---- what a restore brings
+
+floats-fit : (at : ℕ) (b : List ℕ) → T (fits binary64 (float_at at b))
+unfolding float_at
+floats-fit at b = of_bits-fits binary64 _
+
+state-held : (kind : ℕ) (b : List ℕ) → HeldMaybe (held_at kind b)
+state-held kind b = go (eqb kind 0)
+  where
+    go : (t : Bool) → HeldMaybe (cond t None (Some (state_at (state_start kind) b)))
+    go true = tt
+    go false = record { time = floats-fit _ b; motion = floats-fit _ b; longitude = floats-fit _ b }
+
+fresh-held : (b : List ℕ) → HeldMaybe (fresh (constants_in b))
+unfolding constants_of resonant_of floats fits
+fresh-held b = go (eqb (kind_in b) 1) (eqb (kind_in b) 2)
+  where
+    go : (p q : Bool)
+        → HeldMaybe (fresh_by (float_at 88 b) (cond p (Yes (float_at 168 b) (float_at 176 b) (float_at 184 b) (one_day_of (floats 34 8 b))) (cond q (Yes (float_at 168 b) (float_at 176 b) (float_at 184 b) (half_day_of (floats 34 8 b))) (No (float_at 168 b)))))
+    go true q = record { time = tt; motion = floats-fit 88 b; longitude = floats-fit 168 b }
+    go false true = record { time = tt; motion = floats-fit 88 b; longitude = floats-fit 168 b }
+    go false false = tt
+
+pub record Brought (c : Constants) (z : MaybeState) (k : ℕ) : Type 0 where
+  pub fresh : HeldMaybe (fresh c)
+  pub state : HeldMaybe z
+  pub same : (replayedOf c c.resonant z).same ≡ true
+  pub steps : k ≡ (replayedOf c c.resonant z).steps
+
+pub restored-held : (s : List ℕ) (x : ℕ) (c : Constants) (z : MaybeState) (k : ℕ) → restored_from s x ≡ R.Of c z k → Brought c z k
+restored-held s x c z k h =
+    let r = restored-read s x c z k h in
+    let b = r.0 in
+    let p = read-passes b c z k r.1 in
+    record {
+      fresh = subst (λ (d : Constants). HeldMaybe (fresh d)) (sym p.constants) (fresh-held b);
+      state = subst HeldMaybe (sym p.state) (state-held (kind_in b) b);
+      same = p.same;
+      steps = p.steps;
+    }
 
 -- ---- each event, and the list
 
@@ -146,12 +196,12 @@ none-ask c a0 q kind = go (numbers_refusal c q true)
 
 module _ (w : Session) where
   abbrev k : Constants
-  k = w.controller.held.constants
+  k = w.controller.constants
 
-  after-ask : (r : Resonant) → k.resonant ≡ r → GoodBy k r w.controller.held.state w.time → (q : Question)
-      → GoodBy k r (happen w (asks q)).controller.held.state (happen w (asks q)).time
+  after-ask : (r : Resonant) → k.resonant ≡ r → GoodBy k r w.controller.state w.time → (q : Question)
+      → GoodBy k r (happen w (asks q)).controller.state (happen w (asks q)).time
   after-ask (No a0) kind good q = ap (λ (s : MaybeState). (ask_of k s q).state) good ∙ none-ask k a0 q kind
-  after-ask (Yes lambda-0 lambda-dot-0 theta_0 r) kind good q = go w.controller.held.state good
+  after-ask (Yes lambda-0 lambda-dot-0 theta_0 r) kind good q = go w.controller.state good
     where
       go : (s : MaybeState) → GoodBy k (Yes lambda-0 lambda-dot-0 theta_0 r) s w.time → GoodBy k (Yes lambda-0 lambda-dot-0 theta_0 r) (ask_of k s q).state (time_after w.time q.t (ask_of k s q).answer)
       go None g = absurd (g.2 refl)
@@ -163,37 +213,36 @@ fresh_at c (Yes lambda-0 lambda-dot-0 theta_0 r) kind =
     subst (λ (s : MaybeState). GoodBy c (Yes lambda-0 lambda-dot-0 theta_0 r) s zero_time) (sym (ap (fresh_by c.orbit_0.mean_motion) kind)) (fresh-good c lambda-0 lambda-dot-0 theta_0 r kind)
 
 -- a record that passes its replay
-after-replay : (c : Constants) (s : MaybeState) → OfFormat (state_numbers (fresh c)) → OfFormat (state_numbers s) → (replayed_by c c.resonant s).same ≡ true
-    → GoodBy c c.resonant s (stored_time s)
+after-replay : (c : Constants) (s : MaybeState) → HeldMaybe (fresh c) → HeldMaybe s → (replayedOf c c.resonant s).same ≡ true → GoodBy c c.resonant s (stored_time s)
 after-replay c s hf hs p = go c.resonant refl s hs p
   where
-    go : (r : Resonant) → c.resonant ≡ r → (s : MaybeState) → OfFormat (state_numbers s) → (replayed_by c r s).same ≡ true → GoodBy c r s (stored_time s)
+    go : (r : Resonant) → c.resonant ≡ r → (s : MaybeState) → HeldMaybe s → (replayedOf c r s).same ≡ true → GoodBy c r s (stored_time s)
     go (No a0) kind None h p = refl
     go (No a0) kind (Some z) h p = absurd (false≢true p)
     go (Yes lambda-0 lambda-dot-0 theta_0 r) kind None h p = absurd (false≢true p)
     go (Yes lambda-0 lambda-dot-0 theta_0 r) kind (Some z) h p =
-        replayed c lambda-0 lambda-dot-0 theta_0 r kind z
-        (subst (λ (x : MaybeState). OfFormat (state_numbers x)) (ap (fresh_by c.orbit_0.mean_motion) kind) hf) h p
+        replayed c lambda-0 lambda-dot-0 theta_0 r kind z (subst HeldMaybe (ap (fresh_by c.orbit_0.mean_motion) kind) hf) h p
 
-after-restore : (w : Session) → Good w → (l : Layout) (b : List ℕ) → Good (happen w (restores l b))
-after-restore w good l b = go (body_read l b) refl
+after-restore : (w : Session) → Good w → (s : List ℕ) (x : ℕ) → Good (happen w (restores s x))
+after-restore w good s x = go (restored_from s x) refl
   where
-    go : (a : Body) → body_read l b ≡ a → Good (after_restore w a)
-    go (B.Refused f) e = good
-    go (B.Of h k) e =
-        let s = read-sound l b h k e in
-        after-replay h.constants h.state (fresh-format h s.format) (format-rest (own_numbers h.constants) (state_numbers h.state) s.format)
-        (passes h h k s.passed).same
+    go : (a : Restored) → restored_from s x ≡ a → Good (after_restore w (restored_by w.controller a))
+    go R.FileWrong e = good
+    go R.SatelliteMissing e = good
+    go R.BodyWrong e = good
+    go R.NumberNotFinite e = good
+    go (R.StateWrong k) e = good
+    go (R.Of c z k) e = let h = restored-held s x c z k e in after-replay c z h.fresh h.state h.same
 
 pub happens : (w : Session) (e : Event) → Good w → Good (happen w e)
-happens w (asks q) good = after-ask w w.controller.held.constants.resonant refl good q
-happens w resets good = fresh_at w.controller.held.constants w.controller.held.constants.resonant refl
-happens w (restores l b) good = after-restore w good l b
-happens w keeps good = good
+happens w (asks q) good = after-ask w w.controller.constants.resonant refl good q
+happens w (saves s x room) good = good
+happens w resets good = fresh_at w.controller.constants w.controller.constants.resonant refl
+happens w (restores s x) good = after-restore w good s x
 
-pub runs : (w : Session) (es : List Event) → Good w → Good (run w es)
+runs : (w : Session) (es : List Event) → Good w → Good (run w es)
 runs w [] good = good
 runs w (e ∷ es) good = runs (happen w e) es (happens w e good)
 
 pub demand3 : Demand3
-demand3 v es = runs (start v) es (fresh_at v.held.constants v.held.constants.resonant refl)
+demand3 c es = runs (start c) es (fresh_at c c.resonant refl)

@@ -1,5 +1,4 @@
+pub mod Restart
 pub mod Demand
-pub mod Doors
 pub mod Operator
-pub mod Fit
 pub mod Budget

@@ -1,5 +1,5 @@
 pub mod Running
+pub mod Restart
 pub mod Demand
-pub mod Doors
 pub mod Operator
 pub mod Budget

@@ -1,6 +1,5 @@
 -- The elements of an orbit at a time from p28 and p29, with refusals 9 to 12, as the Rust groups them. Definitions only. Assumes nothing.
-use Rattle.std.specs.Prelude.{ℕ, List, [], ◌∷◌, Bool, true, false, cond, ◌&&◌, get_or, Float}
-use Rattle.std.specs.Float.{nan}
+use Rattle.std.specs.Prelude.{ℕ, List, [], ◌∷◌, Bool, true, false, cond, ◌&&◌, Float}
 use Rattle.std.specs.Float.Ieee.{lt, le}
 use Rattle.std.specs.Float.Ieee.Scale.{finite}
 use Rattle.floats.specs.Rounded.{◌⊕◌, ◌⊖◌, ◌⊗◌, ◌⊘◌, ⊝◌, ◌rem◌, dec, magnitude}
@@ -8,10 +7,10 @@ use Rattle.floats.specs.Power.{sq}
 use Rattle.floats.specs.Remainder.{rem_euclid}
 use Rattle.floats.specs.Atan.{arc_of}
 use Rattle.floats.specs.Trig.{wave_of}
-use Rattle.roots.specs.Root.{three_halves}
+use Rattle.floats.specs.Root.{three_halves}
 use Rattle.floats.specs.declared.trig.Wave.{Wave}
-use Rattle.roots.specs.declared.root.Root.{Root}
-use Rattle.roots.specs.declared.root.Root.TheVariants.{Of as root, Outside}
+use Rattle.floats.specs.declared.root.Root.{Root}
+use Rattle.floats.specs.declared.root.Root.TheVariants.{Of as root, Outside}
 use Rattle.orbit.specs.Model.{pi, tau}
 use Rattle.orbit.specs.Propagator.{finite_orbit}
 use Rattle.orbit.specs.declared.model.Geopotential.{Geopotential}
@@ -22,8 +21,6 @@ use Rattle.elements.specs.declared.elements.Question.{Question}
 use Rattle.elements.specs.declared.elements.Elements.{Elements}
 use Rattle.elements.specs.declared.elements.Plane.{Plane}
 use Rattle.elements.specs.declared.elements.Shape.{Shape}
-use Rattle.elements.specs.declared.elements.Carried.{Carried}
-use Rattle.elements.specs.declared.elements.Carried.TheVariants.{Nothing, EccentricityAndTime}
 use Rattle.elements.specs.declared.elements.Outcome.{Outcome}
 use Rattle.elements.specs.declared.elements.Outcome.TheVariants.{Of, AngleRefused, OutOfRangeEccentricity, OutOfRangePerturbedEccentricity, ElementsNotFinite}
 
@@ -204,7 +201,7 @@ elements_of c p28 p29 q =
     let p31 = p31_of c q.t in
     elements_by c p28 p29 q inclination w (plane_of c.afspc_compatibility_mode q inclination w) p31 (perturbed p31 q)
 
--- document 01's number of an outcome: 0 where there are elements
+-- document 01's number of an outcome, 0 where there are elements; and the two numbers that 10 and 11 carry
 abbrev pub number : Outcome → ℕ
 number (Of e) = 0
 number AngleRefused = 9
@@ -212,42 +209,9 @@ number (OutOfRangeEccentricity e t) = 10
 number (OutOfRangePerturbedEccentricity e t) = 11
 number ElementsNotFinite = 12
 
--- 10 and 11 carry the eccentricity and the time
-abbrev pub carried : Outcome → Carried
-carried (Of e) = Nothing
-carried AngleRefused = Nothing
-carried (OutOfRangeEccentricity e t) = EccentricityAndTime e t
-carried (OutOfRangePerturbedEccentricity e t) = EccentricityAndTime e t
-carried ElementsNotFinite = Nothing
-
--- ---- a question and elements as lists of numbers
-
--- t p22 p23; the Sun's five numbers, the Moon's five
-abbrev pub question_of : List Float → Question
-question_of x =
-    let at : ℕ → Float = λ i. get_or x i nan in
-    record {
-      t = at 0;
-      p22 = at 1;
-      p23 = at 2;
-      solar = record {
-        delta_eccentricity = at 3;
-        delta_inclination = at 4;
-        delta_mean_motion = at 5;
-        p4 = at 6;
-        p5 = at 7;
-      };
-      lunar = record {
-        delta_eccentricity = at 8;
-        delta_inclination = at 9;
-        delta_mean_motion = at 10;
-        p4 = at 11;
-        p5 = at 12;
-      };
-    }
-
--- the orbit's six, a, and p32 to p36
-abbrev pub elements_list : Elements → List Float
-elements_list e =
-    e.orbit.inclination ∷ e.orbit.right_ascension ∷ e.orbit.eccentricity ∷ e.orbit.argument_of_perigee ∷ e.orbit.mean_anomaly
-    ∷ e.orbit.mean_motion ∷ e.a ∷ e.p32 ∷ e.p33 ∷ e.p34 ∷ e.p35 ∷ e.p36 ∷ []
+abbrev pub carried : Outcome → List Float
+carried (Of e) = []
+carried AngleRefused = []
+carried (OutOfRangeEccentricity e t) = e ∷ t ∷ []
+carried (OutOfRangePerturbedEccentricity e t) = e ∷ t ∷ []
+carried ElementsNotFinite = []

@@ -1,14 +1,14 @@
 // The elements from p28 and p29: everything of an ask past the resonance integrator.
 ghost use Rattle.std.specs.Prelude.{◌≡◌};
-ghost use Rattle.elements.specs.Elements.{inclination_at, high as high_of, p30_of, near_turn, low_node, low as low_of, plane_of, p31_of, in_range, perturbed, in_unit, a_of, power_of, divisor as divisor_of, elements_at, finite_periodic, finite_question, finite_elements, completed_of, elements_of, number as outcome_number, carried as carried_by, question_of, elements_list};
+ghost use Rattle.elements.specs.Elements.{inclination_at, high as high_of, p30_of, near_turn, low_node, low as low_of, plane_of, p31_of, in_range, perturbed, in_unit, a_of, power_of, divisor as divisor_of, elements_at, finite_periodic, finite_question, finite_elements, completed_of, elements_of};
 
 use floats::atan::atan2;
 use floats::finite::{is_finite, magnitude};
 use floats::remainder::rem_euclid;
+use floats::root::{Root, three_halves};
 use floats::trig::{Wave, sines};
 use orbit::model::{PI, TAU};
 use orbit::propagator::{Constants, Orbit};
-use roots::root::{Root, three_halves};
 
 // The five numbers of the Sun or the Moon at a time. `delta_mean_motion` has the Rust's name: it is
 // a change of mean anomaly, in rad.
@@ -51,52 +51,6 @@ pub enum Outcome {
     OutOfRangeEccentricity { eccentricity: f64, t: f64 }, // refusal 10
     OutOfRangePerturbedEccentricity { eccentricity: f64, t: f64 }, // refusal 11
     ElementsNotFinite, // refusal 12
-}
-
-// What a refusal of an ask carries.
-#[derive(Drop)]
-pub enum Carried {
-    Nothing,
-    StateTime(f64), // 21, which comes before there are elements
-    EccentricityAndTime { eccentricity: f64, t: f64 }, // 10 and 11
-}
-
-impl Outcome {
-    // The refusal's number, 0 where there are elements.
-    pub fn number(self) -> u32
-        ensures { result ≡ outcome_number self }
-    {
-        match self {
-            Outcome::Of(_) => 0,
-            Outcome::AngleRefused => 9,
-            Outcome::OutOfRangeEccentricity {
-                eccentricity: _,
-                t: _,
-            } => 10,
-            Outcome::OutOfRangePerturbedEccentricity {
-                eccentricity: _,
-                t: _,
-            } => 11,
-            Outcome::ElementsNotFinite => 12,
-        }
-    }
-
-    // What a refusal carries: 10 and 11 the eccentricity and the time.
-    pub fn carried(self) -> Carried
-        ensures { result ≡ carried_by self }
-    {
-        match self {
-            Outcome::Of(_) => Carried::Nothing,
-            Outcome::AngleRefused => Carried::Nothing,
-            Outcome::OutOfRangeEccentricity { eccentricity, t } => {
-                Carried::EccentricityAndTime { eccentricity, t }
-            }
-            Outcome::OutOfRangePerturbedEccentricity { eccentricity, t } => {
-                Carried::EccentricityAndTime { eccentricity, t }
-            }
-            Outcome::ElementsNotFinite => Carried::Nothing,
-        }
-    }
 }
 
 // Node and perigee at the time asked, and whether every angle on the way is answered.
@@ -314,33 +268,6 @@ impl Periodic {
 }
 
 impl Question {
-    // t, p22, p23, and the five numbers of the Sun and of the Moon.
-    pub fn of(x: &[f64; 13]) -> Question
-        ensures { result ≡ question_of x.now }
-    {
-        let solar = Periodic {
-            delta_eccentricity: x[3],
-            delta_inclination: x[4],
-            delta_mean_motion: x[5],
-            p4: x[6],
-            p5: x[7],
-        };
-        let lunar = Periodic {
-            delta_eccentricity: x[8],
-            delta_inclination: x[9],
-            delta_mean_motion: x[10],
-            p4: x[11],
-            p5: x[12],
-        };
-        Question {
-            t: x[0],
-            p22: x[1],
-            p23: x[2],
-            solar,
-            lunar,
-        }
-    }
-
     // Whether every number but the time is finite.
     pub fn is_finite(self) -> bool
         ensures { result ≡ finite_question self }
@@ -352,26 +279,6 @@ impl Question {
 }
 
 impl Elements {
-    // The twelve numbers: the orbit's six, a, and p32 to p36.
-    pub fn list(self) -> [f64; 12]
-        ensures { result ≡ elements_list self }
-    {
-        [
-            self.orbit.inclination,
-            self.orbit.right_ascension,
-            self.orbit.eccentricity,
-            self.orbit.argument_of_perigee,
-            self.orbit.mean_anomaly,
-            self.orbit.mean_motion,
-            self.a,
-            self.p32,
-            self.p33,
-            self.p34,
-            self.p35,
-            self.p36,
-        ]
-    }
-
     // Whether each of the twelve numbers is finite.
     pub fn is_finite(self) -> bool
         ensures { result ≡ finite_elements self }

@@ -12,7 +12,8 @@ use lib.Ieee.{Float, nan, inf, fin, binary64, up, down, size, fits, of_bits, to_
 use lib.Ieee.Fits.{and_l, and_r, up_pos, down_pos}
 use lib.Ieee.Bits.{of_bits-to_bits}
 use lib.Ieee.Exact.{HasValue}
-use Rattle.floats.specs.Value.{plain, in_units, count}
+use Rattle.floats.specs.Value.{in_units, count}
+use Rattle.floats.specs.Root.{plain}
 use Rattle.floats.proofs.Patterns.{to_bits-of}
 
 pow_le_back : (a l : ℕ) → 2 ^ a ≤ 2 ^ l → a ≤ l

@@ -1,3 +1,4 @@
+pub mod Powers
 pub mod Patterns
 pub mod Grid
 pub mod Rounding

@@ -1,18 +1,17 @@
 -- A comparison of floats as one of the fractions that they equal, and the tests of finiteness and sign by comparisons. Assumes nothing.
 use mathlib.Core.Path.{◌≡◌, refl, sym, ap, ap₂, ◌∙◌, subst}
 use Prim.Native.Nat.{ℕ, zero, suc, ◌+◌, ◌-◌, ◌*◌, ◌/◌, ◌%◌, ◌^◌, ◌≤◌, ◌<◌}
-use native.Mathlib.Nat.{le_refl, sub_self, le_trans, lt_trans, le_of_eq, mul_comm, mul_assoc, mul_left_comm, mul_right_comm, mul-le-mul_right, le_of_mul-le-mul_right, mul-pos, zero-mul, add-mul, mul-one, mul-mul-mul_comm, eq-zero-or-pos, lt_irrefl}
+use native.Mathlib.Nat.{le_refl, zero-lt-suc, sub_self, le_trans, le_of_eq, mul_comm, mul_assoc, mul_left_comm, mul_right_comm, mul-le-mul_right, le_of_mul-le-mul_right, mul-pos, zero-mul, add-mul, mul-one, mul-mul-mul_comm, eq-zero-or-pos, lt_irrefl}
 use mathlib.Core.Logic.{◌⊎◌, inl, inr}
 use native.Mathlib.Omega.{arith}
 use mathlib.Core.Bool.{Bool, true, false, not, ◌&&◌, ◌||◌, cond, beq, true≢false, false≢true}
 use lib.IntN.{ℤ, pos}
 use lib.Dec.{T, leb, ltb, eqb, leb→le, le→leb, eqb→eq, lit<}
-use lib.Ieee.{Float, nan, inf, fin, binary64, up, down, size, fits, below, level, lt, le, eq, sub, add, neg, round, to_bits}
+use lib.Ieee.{Float, nan, inf, fin, binary64, up, down, below, level, lt, le, eq, sub, add, neg, div, round}
 use lib.Ieee.Fits.{up_pos, down_pos, eq→eqb}
 use lib.Ieee.Exact.{HasValue, round_exact}
 use lib.Ieee.Scale.{finite}
 use Rattle.floats.specs.Value.{at_most, negative, is_zero}
-use Rattle.floats.proofs.Patterns.{zero_bits, positive-bits}
 use borrow.Author.Tests.{ltb-true, ltb-false, leb-true, leb-false, eqb-true, eqb-false, lt-ltb, le-ltb, le-leb, lt-leb, eq-eqb, ne_eqb}
 
 -- two tests that each follow from the other
@@ -199,21 +198,28 @@ finite-is (fin s m e) = unfold sub add neg eq in (ap (λ (x : Float). eq x (fin 
     at true = unfold sub add neg in nothing true (m * up e * down e)
     at false = unfold sub add neg in nothing false (m * up e * down e)
 
--- ---- the sign bit, by the pattern
+-- ---- the sign bit, by comparisons
 
-pub sign_bit : (x : Float) → T (fits binary64 x) → leb (2 ^ 63) (to_bits binary64 x) ≡ negative x
-unfolding to_bits
-sign_bit nan F = refl
-sign_bit (inf true) F = refl
-sign_bit (inf false) F = refl
-sign_bit (fin true m e) F =
-    let n = m * up e * 2 ^ 1074 / down e in
-    le-leb (2 ^ 63) (2 ^ 63 + (size n - 53) * 2 ^ 52 + n / 2 ^ (size n - 53)) (go ((size n - 53) * 2 ^ 52) (n / 2 ^ (size n - 53)))
-  where
-    go : (a b : ℕ) → 2 ^ 63 ≤ 2 ^ 63 + a + b
-    go a b = omega arith
-sign_bit (fin false zero e) F = ap (leb (2 ^ 63)) (zero_bits false e)
-sign_bit (fin false (suc m) e) F = lt-leb (2 ^ 63) (to_bits binary64 (fin false (suc m) e)) (lt_trans (positive-bits m e F) (lit< tt))
+not-zero : (s : Bool) (m : ℕ) (e : ℤ) → eq (fin s (suc m) e) (fin false 0 (pos 0)) ≡ false
+not-zero s m e =
+    zero_test (fin s (suc m) e) s (suc m * up e) (down e) (down_pos e) (refl, refl)
+    ∙ ne_eqb (suc m * up e) 0 (λ (h : suc m * up e ≡ 0). lt_irrefl 0 (subst (λ (z : ℕ). 0 < z) h (mul-pos (zero-lt-suc m) (up_pos e))))
+
+pub at_zero : (x : Float) → eq x (fin false 0 (pos 0)) ≡ true → lt (div binary64 (fin false 1 (pos 0)) x) (fin false 0 (pos 0)) ≡ negative x
+unfolding eq lt div
+at_zero nan h = absurd (false≢true h)
+at_zero (inf s) h = absurd (false≢true h)
+at_zero (fin true zero e) h = refl
+at_zero (fin false zero e) h = refl
+at_zero (fin s (suc m) e) h = absurd (false≢true (sym (not-zero s m e) ∙ unfold eq in h))
+
+pub past-zero : (x : Float) → eq x (fin false 0 (pos 0)) ≡ false → lt x (fin false 0 (pos 0)) ≡ negative x
+unfolding lt
+past-zero nan h = refl
+past-zero (inf s) h = refl
+past-zero (fin s zero e) h = absurd (true≢false (sym (zero_test (fin s zero e) s (zero * up e) (down e) (down_pos e) (refl, refl) ∙ ap (λ (k : ℕ). eqb k 0) (zero-mul (up e))) ∙ h))
+past-zero (fin true (suc m) e) h = lt-ltb 0 (suc m * up e * 1 + 0 * down e) (omega (arith, mul-pos (zero-lt-suc m) (up_pos e)))
+past-zero (fin false (suc m) e) h = ap (λ (k : ℕ). ltb (suc m * up e * 1) k) (zero-mul (down e)) ∙ le-ltb (suc m * up e * 1) 0 (omega arith)
 
 -- ---- tests of the code
 

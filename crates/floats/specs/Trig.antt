@@ -1,6 +1,6 @@
--- Sine and cosine of an angle in radians, as rounded operations: the recipe is the definition (docs/FLOATS.md has it in numbered steps). Definitions and
--- a statement. Assumes nothing.
-use Rattle.std.specs.Prelude.{ℕ, zero, suc, ◌*◌, Bool, true, false, cond, ◌≡◌, Float}
+-- Sine and cosine of an angle in radians, as rounded operations: the recipe is the definition (docs/FLOATS.md has it in numbered steps). Definitions only.
+-- Assumes nothing.
+use Rattle.std.specs.Prelude.{ℕ, zero, suc, ◌*◌, Bool, true, false, cond, Float}
 use Rattle.std.specs.Float.{binary64}
 use Rattle.std.specs.Float.Ieee.{round, le, of_bits}
 use Rattle.floats.specs.Rounded.{◌⊕◌, ◌⊖◌, ◌⊗◌, dec, magnitude}
@@ -17,7 +17,7 @@ number Outside = 9
 
 -- the largest magnitude that is answered
 unfoldable pub angle_limit : Float
-angle_limit = dec 16777216 0
+angle_limit = dec 1048576 0
 
 -- ---- the kernels: the series with rounded 1 / n!, to degree 15 and 16, in pairs of terms
 
@@ -76,28 +76,23 @@ swing k = let h = nearby (k ⊗ dec 5 1) in k ⊖ (h ⊕ h)
 unfoldable pub direct_limit : Float
 direct_limit = dec 7853981633974483 16
 
--- the quarter turns that are taken from x
-unfoldable pub turns : Float → Float
-turns x = cond (le (magnitude x) direct_limit) (dec 0 0) (quarters x)
-
 abbrev pub wave : Float → Float → Bool → Wave
 wave s c ok = record { sin = s; cos = c; ok = ok }
 
--- sin (r + kπ/2) = cos (kπ/2) sin r - (0 - sin (kπ/2)) cos r, and cos (kπ/2) cos r - sin (kπ/2) sin r. As a difference the sine of -0.0 is -0.0 where k is 0
+-- sin (r + kπ/2) = cos (kπ/2) sin r + sin (kπ/2) cos r, and likewise for the cosine
 unfoldable pub turned : Float → Float → Bool → Wave
 turned r k ok =
     let s = sine_kernel r in
     let c = cosine_kernel r in
     let b = swing k in
     let a = swing (k ⊕ dec 1 0) in
-    wave (a ⊗ s ⊖ (dec 0 0 ⊖ b) ⊗ c) (a ⊗ c ⊖ b ⊗ s) ok
+    wave (a ⊗ s ⊕ b ⊗ c) (a ⊗ c ⊖ b ⊗ s) ok
 
 -- sine and cosine of x, and whether x is answered: its magnitude is at most the limit, which no NaN's is
-unfoldable pub wave_to : Float → Float → Wave
-wave_to limit x = turned (reduced x (turns x)) (turns x) (le (magnitude x) limit)
-
 unfoldable pub wave_of : Float → Wave
-wave_of x = wave_to angle_limit x
+wave_of x =
+    cond (le (magnitude x) direct_limit) (wave (sine_kernel x) (cosine_kernel x) true)
+    (turned (reduced x (quarters x)) (quarters x) (le (magnitude x) angle_limit))
 
 -- both where x is answered
 abbrev pub sin_cos_of : Float → SinCos
@@ -108,13 +103,3 @@ sine_of x = cond (wave_of x).ok (Of (wave_of x).sin) Outside
 
 abbrev pub cosine_of : Float → Trig
 cosine_of x = cond (wave_of x).ok (Of (wave_of x).cos) Outside
-
--- ---- the limit before
-
--- the largest magnitude that was answered first
-unfoldable pub former_limit : Float
-former_limit = dec 1048576 0
-
--- up to it every answer is what it was
-abbrev pub AnglesAsBefore : Type 0
-AnglesAsBefore = (x : Float) → le (magnitude x) former_limit ≡ true → wave_of x ≡ wave_to former_limit x

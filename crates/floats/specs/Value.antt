@@ -1,5 +1,5 @@
 -- What a float is as a number: its sign bit, whether it is zero, and its size over whole numbers. Definitions only. Assumes nothing.
-use Rattle.std.specs.Prelude.{ℕ, ◌*◌, ◌/◌, ◌^◌, Bool, true, false, not, leb, ltb, eqb, Float, ℤ}
+use Rattle.std.specs.Prelude.{ℕ, ◌*◌, ◌/◌, ◌^◌, Bool, true, false, leb, ltb, eqb, Float, ℤ}
 use Rattle.std.specs.Float.{nan, inf, fin, binary64}
 use Rattle.std.specs.Float.Ieee.{up, down, to_bits}
 
@@ -41,9 +41,3 @@ count (fin s m e) = in_units m e
 -- equal in every bit
 abbrev pub same_bits : Float → Float → Bool
 same_bits x y = eqb (to_bits binary64 x) (to_bits binary64 y)
-
--- finite, with a plus sign
-abbrev pub plain : Float → Bool
-plain nan = false
-plain (inf s) = false
-plain (fin s m e) = not s

@@ -13,12 +13,11 @@ pub fn is_finite(x: f64) -> bool
     x - x == 0.0
 }
 
-// Whether x has the sign bit: x is below 0, or is -0.0. By its bits, and not by 1.0 / x, which would raise the
-// host's flag of a division by zero.
+// Whether x has the sign bit: x is below 0, or is -0.0.
 pub fn is_negative(x: f64) -> bool
     ensures { result ≡ negative x }
 {
-    bits_of(x) >= 0x8000_0000_0000_0000
+    if x == 0.0 { 1.0 / x < 0.0 } else { x < 0.0 }
 }
 
 // x without its sign, but that -0.0 keeps it.

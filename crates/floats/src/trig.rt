@@ -1,12 +1,12 @@
 // Sine and cosine of an angle in radians, by a reduction to an eighth of a turn either way and two
 // polynomials.
 ghost use Rattle.std.specs.Prelude.{◌≡◌};
-ghost use Rattle.floats.specs.Trig.{sine_sum, cosine_sum, sine_kernel, cosine_kernel, nearby as nearby_of, quarters as quarters_of, reduced as reduced_of, swing as swing_of, turns as turns_of, turned as turned_of, wave_of, sin_cos_of, sine_of, cosine_of};
+ghost use Rattle.floats.specs.Trig.{sine_sum, cosine_sum, sine_kernel, cosine_kernel, nearby as nearby_of, quarters as quarters_of, reduced as reduced_of, swing as swing_of, turned as turned_of, wave_of, sin_cos_of, sine_of, cosine_of};
 
 use crate::finite::magnitude;
 
 // The largest magnitude of an angle that is answered.
-const ANGLE_LIMIT: f64 = 16777216.0;
+const ANGLE_LIMIT: f64 = 1048576.0;
 
 // Sine and cosine of one angle, and whether the angle is answered.
 #[derive(Drop)]
@@ -80,16 +80,6 @@ fn quarters(x: f64) -> f64
     nearby(x * 0.6366197723675814)
 }
 
-// The quarter turns that are taken from x: none from a small x, which the kernels then take as it is. Both
-// are worked out before the choice, so that there is no jump.
-fn turns(x: f64) -> f64
-    ensures { result ≡ turns_of x }
-{
-    let m = magnitude(x);
-    let k = quarters(x);
-    if m <= 0.7853981633974483 { 0.0 } else { k }
-}
-
 // x less k quarter turns.
 fn reduced(x: f64, k: f64) -> f64
     ensures { result ≡ reduced_of x k }
@@ -105,8 +95,7 @@ fn swing(k: f64) -> f64
     k - (h + h)
 }
 
-// Sine and cosine of r and k quarter turns together. Both are a difference, so that they are worked out as
-// a pair; and where k is 0 they are those of r alone, also of an r that is -0.0.
+// Sine and cosine of r and k quarter turns together.
 fn turned(r: f64, k: f64, ok: bool) -> Wave
     ensures { result ≡ turned_of r k ok }
 {
@@ -115,19 +104,26 @@ fn turned(r: f64, k: f64, ok: bool) -> Wave
     let b = swing(k);
     let a = swing(k + 1.0);
     Wave {
-        sin: a * s - (0.0 - b) * c,
+        sin: a * s + b * c,
         cos: a * c - b * s,
         ok,
     }
 }
 
-// Sine and cosine of x, and whether x is answered: for callers with many angles and one refusal. Without a
-// branch the compiler puts the whole into each caller.
+// Sine and cosine of x, and whether x is answered: for callers with many angles and one refusal.
 pub fn sines(x: f64) -> Wave
     ensures { result ≡ wave_of x }
 {
-    let k = turns(x);
-    turned(reduced(x, k), k, magnitude(x) <= ANGLE_LIMIT)
+    let m = magnitude(x);
+    if m <= 0.7853981633974483 {
+        return Wave {
+            sin: sine_kernel(x),
+            cos: cosine_kernel(x),
+            ok: true,
+        };
+    }
+    let k = quarters(x);
+    turned(reduced(x, k), k, m <= ANGLE_LIMIT)
 }
 
 // Sine and cosine of x, by one reduction.

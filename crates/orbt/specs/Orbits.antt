@@ -6,9 +6,8 @@ use Rattle.orbit.specs.declared.model.SiderealTime.{SiderealTime}
 use Rattle.orbit.specs.declared.model.SiderealTime.TheVariants.{Iau, Afspc}
 use Rattle.orbit.specs.declared.model.Sidereal.{Sidereal}
 use Rattle.orbit.specs.declared.model.Sidereal.TheVariants.{Of as theta, EpochNotFinite, NotFinite as theta-not-finite}
-use Rattle.orbit.specs.Model.{sidereal_of, number as siderealNumber}
 use Rattle.orbit.specs.declared.propagator.Orbit.{Orbit}
-use Rattle.constants_list.specs.Numbers.{kind_of, numbers_of, place, constants_of}
+use Rattle.record.specs.Record.{kind_of, numbers_of, place, constants_of}
 use Rattle.constants.specs.Build.{built_of, number as buildNumber}
 use Rattle.constants.specs.declared.geometry.ThirdBody.{ThirdBody}
 use Rattle.constants.specs.declared.geometry.Geometry.{Geometry}
@@ -21,13 +20,10 @@ use Rattle.elements.specs.Elements.{number as outcomeNumber}
 use Rattle.elements.specs.declared.elements.Periodic.{Periodic}
 use Rattle.elements.specs.declared.elements.Question.{Question}
 use Rattle.elements.specs.declared.elements.Elements.{Elements}
-use Rattle.elements.specs.declared.elements.Carried.{Carried}
-use Rattle.elements.specs.declared.elements.Carried.TheVariants.{Nothing, StateTime, EccentricityAndTime}
 use Rattle.elements.specs.declared.elements.Outcome.{Outcome}
 use Rattle.elements.specs.declared.elements.Outcome.TheVariants.{Of as found, AngleRefused, OutOfRangeEccentricity, OutOfRangePerturbedEccentricity, ElementsNotFinite}
-use Rattle.times.specs.Refusal.{number as fault_number}
-use Rattle.resonance.specs.Refusal.{carried_fault}
-use Rattle.resonance.specs.State.{fresh, stepped}
+use Rattle.times.specs.Refusal.{number as faultNumber}
+use Rattle.resonance.specs.State.{stepped}
 use Rattle.resonance.specs.Ask.{ask_of}
 use Rattle.resonance.specs.declared.state.ResonanceState.{ResonanceState}
 use Rattle.resonance.specs.declared.state.MaybeState.{MaybeState}
@@ -38,13 +34,9 @@ use Rattle.resonance.specs.declared.ask.Asked.{Asked}
 use Rattle.resonance.specs.declared.ask.Answer.{Answer}
 use Rattle.resonance.specs.declared.ask.Answer.TheVariants.{Refused, Reached}
 
--- a kind above 2, or a flag or like number above 1: refusal 16 of every call that takes one
-abbrev pub is_wrong : ℕ → ℕ → ℕ → Bool
-is_wrong kind flag held = ltb 2 kind || ltb 1 flag || ltb 1 held
-
 -- ---- sidereal time
 
--- 0 is the IAU expression, 1 the AFSPC one
+-- 0 is the IAU expression, any other number the AFSPC one
 abbrev pub which_of : ℕ → SiderealTime
 which_of which = cond (eqb which 0) Iau Afspc
 
@@ -52,14 +44,6 @@ abbrev pub sidereal_or : Float → Sidereal → Float
 sidereal_or old (theta x) = x
 sidereal_or old EpochNotFinite = old
 sidereal_or old theta-not-finite = old
-
--- what the call leaves: 16 and all as it was where `which` is above 1; else its number and the angle
-abbrev pub SiderealBy : Bool → Sidereal → Float → ℕ → Float → Type 0
-SiderealBy true s angle r angle' = (r ≡ 16) × (angle' ≡ angle)
-SiderealBy false s angle r angle' = (r ≡ siderealNumber s) × (angle' ≡ sidereal_or angle s)
-
-abbrev pub SiderealLeaves : ℕ → Float → Float → ℕ → Float → Type 0
-SiderealLeaves which epoch angle r angle' = SiderealBy (is_wrong 0 0 which) (sidereal_of (which_of which) epoch) angle r angle'
 
 -- ---- geometry
 
@@ -139,13 +123,13 @@ constants_or old no-build-3 = old
 constants_or old no-build-9 = old
 constants_or old no-build-13 = old
 
--- what a build leaves: 16 and all as it was where `which` or the flag is above 1; else the build's number, kind and constants
+-- what a build leaves: 16 and all as it was for a flag above 1; else the build's number, kind and constants
 abbrev pub BuildBy : Bool → Built → ℕ → List Float → ℕ → ℕ → List Float → Type 0
 BuildBy true b kind constants r kind' constants' = (r ≡ 16) × (kind' ≡ kind) × (constants' ≡ constants)
 BuildBy false b kind constants r kind' constants' = (r ≡ buildNumber b) × (kind' ≡ kind_or kind b) × (constants' ≡ constants_or constants b)
 
 abbrev pub BuildLeaves : ℕ → ℕ → List Float → ℕ → List Float → ℕ → ℕ → List Float → Type 0
-BuildLeaves which flag given kind constants r kind' constants' = BuildBy (is_wrong 0 flag which) (built_from which (eqb flag 1) given) kind constants r kind' constants'
+BuildLeaves which flag given kind constants r kind' constants' = BuildBy (ltb 1 flag) (built_from which (eqb flag 1) given) kind constants r kind' constants'
 
 -- ---- states
 
@@ -162,14 +146,6 @@ state_or old (Some s) = state_list s
 abbrev pub held_number : MaybeState → ℕ
 held_number None = 0
 held_number (Some s) = 1
-
--- what a fresh state's call leaves: 16 and all as it was for a kind above 2; else 1 and the state, or 0 where there is none
-abbrev pub FreshBy : Bool → MaybeState → List Float → ℕ → List Float → Type 0
-FreshBy true s state r state' = (r ≡ 16) × (state' ≡ state)
-FreshBy false s state r state' = (r ≡ held_number s) × (state' ≡ state_or state s)
-
-abbrev pub FreshLeaves : ℕ → List Float → List Float → ℕ → List Float → Type 0
-FreshLeaves kind constants state r state' = FreshBy (is_wrong kind 0 0) (fresh (constants_of kind false constants)) state r state'
 
 -- a state where `held` is 1
 abbrev pub maybe_of : ℕ → List Float → MaybeState
@@ -216,36 +192,33 @@ outcome_or old (OutOfRangeEccentricity e t) = carried_over old e t
 outcome_or old (OutOfRangePerturbedEccentricity e t) = carried_over old e t
 outcome_or old ElementsNotFinite = old
 
--- 21 leaves the state's time in the first place, and the rest as it was
-abbrev pub carried_or : List Float → Carried → List Float
-carried_or old Nothing = old
-carried_or old (StateTime s) = carried_over old s (place old 1)
-carried_or old (EccentricityAndTime e t) = carried_over old e t
-
 abbrev pub elements_or : List Float → Answer → List Float
-elements_or old (Refused f) = carried_or old (carried_fault f)
+elements_or old (Refused f) = old
 elements_or old (Reached o) = outcome_or old o
 
 abbrev pub answer_number : Answer → ℕ
-answer_number (Refused f) = fault_number f
+answer_number (Refused f) = faultNumber f
 answer_number (Reached o) = outcomeNumber o
 
--- the ask that a call's numbers stand for
-abbrev pub asked_from : ℕ → ℕ → List Float → ℕ → List Float → List Float → Asked
-asked_from kind flag constants held state question = ask_of (constants_of kind (eqb flag 1) constants) (maybe_of held state) (question_of question)
+-- a kind above 2, or a flag above 1
+abbrev pub is_wrong : ℕ → ℕ → ℕ → Bool
+is_wrong kind flag held = ltb 2 kind || ltb 1 flag || ltb 1 held
 
 -- what an ask leaves: 16 and all as it was where a number of the call is wrong; else the answer's number, the state, the elements and the steps
-pub record AskLeaves (wrong : Bool) (a : Asked) (state₀ elements₀ : List Float) (steps₀ r : ℕ) (state₁ elements₁ : List Float) (steps₁ : ℕ) : Type 0 where
-  pub number : r ≡ cond wrong 16 (answer_number a.answer)
-  pub state : state₁ ≡ cond wrong state₀ (state_or state₀ a.state)
-  pub elements : elements₁ ≡ cond wrong elements₀ (elements_or elements₀ a.answer)
-  pub steps : steps₁ ≡ cond wrong steps₀ a.steps
+abbrev pub AskBy : Bool → Asked → List Float → List Float → ℕ → ℕ → List Float → List Float → ℕ → Type 0
+AskBy true a state elements steps r state' elements' steps' = (r ≡ 16) × (state' ≡ state) × (elements' ≡ elements) × (steps' ≡ steps)
+AskBy false a state elements steps r state' elements' steps' =
+    (r ≡ answer_number a.answer) × (state' ≡ state_or state a.state) × (elements' ≡ elements_or elements a.answer) × (steps' ≡ a.steps)
+
+abbrev pub AskLeaves : ℕ → ℕ → List Float → ℕ → List Float → List Float → List Float → ℕ → ℕ → List Float → List Float → ℕ → Type 0
+AskLeaves kind flag constants held state question elements steps r state' elements' steps' =
+    AskBy (is_wrong kind flag held) (ask_of (constants_of kind (eqb flag 1) constants) (maybe_of held state) (question_of question)) state elements steps r state' elements' steps'
 
 -- ---- one step
 
 abbrev pub stepped_number : Stepped → ℕ
 stepped_number (To s) = 0
-stepped_number (no_step f s) = fault_number f
+stepped_number (no_step f s) = faultNumber f
 
 abbrev pub stepped_state : Stepped → List Float
 stepped_state (To s) = state_list s

@@ -1,7 +1,7 @@
 -- What a call leaves behind its pointers: the answer, or what was there. Definitions only. Assumes nothing.
 use Rattle.std.specs.Prelude.{Float}
-use Rattle.roots.specs.declared.root.Root.{Root}
-use Rattle.roots.specs.declared.root.Root.TheVariants.{Of as root, Outside as no-root}
+use Rattle.floats.specs.declared.root.Root.{Root}
+use Rattle.floats.specs.declared.root.Root.TheVariants.{Of as root, Outside as no-root}
 use Rattle.floats.specs.declared.trig.Trig.{Trig}
 use Rattle.floats.specs.declared.trig.Trig.TheVariants.{Of as value, Outside as no_value}
 

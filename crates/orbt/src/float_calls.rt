@@ -1,6 +1,6 @@
 // The float functions, under C's names.
 ghost use Rattle.std.specs.Prelude.{◌≡◌};
-ghost use Rattle.roots.specs.Root.{sqrt_of, cbrt_of, two_thirds, three_halves, number as root_number};
+ghost use Rattle.floats.specs.Root.{sqrt_of, cbrt_of, two_thirds, three_halves, number as root_number};
 ghost use Rattle.floats.specs.Trig.{sine_of, cosine_of, number as trig_number};
 ghost use Rattle.floats.specs.Floor.{floor_of};
 ghost use Rattle.floats.specs.Remainder.{rem_euclid};
@@ -10,8 +10,8 @@ ghost use Rattle.orbt.specs.Written.{root_or, trig_or};
 use floats::atan::atan2;
 use floats::floor::floor;
 use floats::remainder::rem_euclid;
+use floats::root::{Root, cbrt, sqrt, three_halves, two_thirds};
 use floats::trig::{Trig, cos, sin, sines};
-use roots::root::{Root, cbrt, sqrt, three_halves, two_thirds};
 
 // The number of an answer, and what stands behind its pointer: the answer, or what was there.
 fn root_number(r: Root) -> u32

@@ -1,27 +1,25 @@
 // The calls on orbits. Constants travel as their kind, the AFSPC flag and 34 floats in the order of a
 // store's body; a state as its three floats; a question as 13 floats.
-ghost use Rattle.std.specs.Prelude.{◌≡◌};
+ghost use Rattle.std.specs.Prelude.{false, ◌≡◌};
 ghost use Rattle.orbit.specs.Class.{class_of};
-ghost use Rattle.orbit.specs.Model.{number as sidereal_number};
+ghost use Rattle.orbit.specs.Model.{sidereal_of, number as sidereal_number};
 ghost use Rattle.constants.specs.Geometry.{geometry_of, number as geometry_number};
 ghost use Rattle.constants.specs.Build.{number as build_number};
-ghost use Rattle.resonance.specs.Refusal.{carried_fault};
-ghost use Rattle.elements.specs.Elements.{number as outcome_number, elements_of};
-ghost use Rattle.orbt.specs.Orbits.{which_of as which_named, sidereal_or, bodies_or, built_from, kind_or, constants_or, BuildLeaves, SiderealLeaves, FreshLeaves, state_of as state_in, state_or, held_number, maybe_of, question_of as question_in, elements_list, carried_over, carried_or, outcome_or, is_wrong as is_wrong_of, asked_from, AskLeaves, stepped_number, stepped_state, StepLeaves};
-ghost use Rattle.constants_list.specs.Numbers.{class_kind, constants_of};
+ghost use Rattle.resonance.specs.State.{fresh};
+ghost use Rattle.elements.specs.Elements.{number as outcome_number};
+ghost use Rattle.orbt.specs.Orbits.{which_of as which_named, sidereal_or, bodies_or, built_from, kind_or, constants_or, BuildLeaves, state_of as state_in, state_or, held_number, maybe_of, question_of as question_in, elements_list, carried_over, outcome_or, elements_or, answer_number, is_wrong as is_wrong_of, AskLeaves, stepped_number, stepped_state, StepLeaves};
+ghost use Rattle.record.specs.Record.{class_kind, constants_of};
 
 use constants::build::{Built, build};
 use constants::geometry::{Geometry, geometry_of};
 use constants::given::{Dots, Given};
-use constants_list::{constants_of, is_finite_list, kind_of, kind_of_class, numbers_of};
-use elements::elements::{Carried, Elements, Outcome, Periodic, Question, elements_at};
+use elements::elements::{Elements, Outcome, Periodic, Question};
 use orbit::class::class_of;
 use orbit::model::{Geopotential, Sidereal, SiderealTime, sidereal_time};
 use orbit::propagator::Orbit;
-use resonance::ask::{Answer, Located};
+use record::{constants_of, kind_of, kind_of_class, numbers_of};
+use resonance::ask::Answer;
 use resonance::state::{MaybeState, ResonanceState, Stepped, initial_state};
-use roots::root::Root;
-use times::time::Fault;
 
 // ---- class and sidereal time
 
@@ -33,7 +31,7 @@ pub extern "C" fn orbt_class(n: f64, e: f64) -> u32
     kind_of_class(class_of(n, e))
 }
 
-// 0 names the IAU expression, 1 the AFSPC one.
+// 0 names the IAU expression, any other number the AFSPC one.
 fn which_of(which: u32) -> SiderealTime
     ensures { result ≡ which_named which }
 {
@@ -63,14 +61,12 @@ fn sidereal_or(old: f64, s: Sidereal) -> f64
     }
 }
 
-// The sidereal time at an epoch in years since 1 January 2000 12h, or 3 or 13; 16 where `which` is neither 0 nor 1.
+// The sidereal time at an epoch in years since 1 January 2000 12h, or 3 or 13.
 #[unsafe(no_mangle)]
 pub extern "C" fn orbt_sidereal_time(which: u32, epoch: f64, theta: &mut f64) -> u32
-    ensures { SiderealLeaves which epoch theta.old result theta.new }
+    ensures { (result ≡ sidereal_number (sidereal_of (which_named which) epoch))
+        × (theta.new ≡ sidereal_or theta.old (sidereal_of (which_named which) epoch)) }
 {
-    if is_wrong(0, 0, which) {
-        return 16;
-    }
     let s = sidereal_time(which_of(which), epoch);
     *theta = sidereal_or(*theta, s);
     sidereal_number(s)
@@ -217,7 +213,7 @@ fn built_from(which: u32, flag: bool, x: &[f64; 31]) -> Built
     )
 }
 
-// Kind and constants of an orbit, or 3, 9 or 13; 16 where `which` or the flag is neither 0 nor 1.
+// Kind and constants of an orbit, or 3, 9 or 13; 16 where the flag is neither 0 nor 1.
 #[unsafe(no_mangle)]
 pub extern "C" fn orbt_build(
     which: u32,
@@ -228,7 +224,7 @@ pub extern "C" fn orbt_build(
 ) -> u32
     ensures { BuildLeaves which flag given.now kind.old constants.old result kind.new constants.new }
 {
-    if is_wrong(0, flag, which) {
+    if flag > 1 {
         return 16;
     }
     let b = built_from(which, flag == 1, given);
@@ -268,14 +264,12 @@ pub(crate) fn is_held(s: MaybeState) -> u32
     }
 }
 
-// The fresh state: 1 where the kind has one, 0 where it has none; 16 where the kind is above 2.
+// The fresh state: 1 where the kind has one, 0 where it has none.
 #[unsafe(no_mangle)]
 pub extern "C" fn orbt_fresh(kind: u32, constants: &[f64; 34], state: &mut [f64; 3]) -> u32
-    ensures { FreshLeaves kind constants.now state.old result state.new }
+    ensures { (result ≡ held_number (fresh (constants_of kind false constants.now)))
+        × (state.new ≡ state_or state.old (fresh (constants_of kind false constants.now))) }
 {
-    if is_wrong(kind, 0, 0) {
-        return 16;
-    }
     let s = initial_state(constants_of(kind, false, constants));
     *state = state_or(*state, s);
     is_held(s)
@@ -298,6 +292,15 @@ fn outcome_number(o: Outcome) -> u32
             t: _,
         } => 11,
         Outcome::ElementsNotFinite => 12,
+    }
+}
+
+fn answer_number(a: Answer) -> u32
+    ensures { result ≡ answer_number a }
+{
+    match a {
+        Answer::Refused(f) => f.number(),
+        Answer::Reached(o) => outcome_number(o),
     }
 }
 
@@ -355,23 +358,13 @@ fn outcome_or(old: [f64; 12], o: Outcome) -> [f64; 12]
     }
 }
 
-// What a refusal carries in the first places, and the rest as it was.
-fn carried_or(old: [f64; 12], c: Carried) -> [f64; 12]
-    ensures { result ≡ carried_or old c }
+fn elements_or(old: [f64; 12], a: Answer) -> [f64; 12]
+    ensures { result ≡ elements_or old a }
 {
-    match c {
-        Carried::Nothing => old,
-        Carried::StateTime(time) => carried(old, time, old[1]),
-        Carried::EccentricityAndTime { eccentricity, t } => carried(old, eccentricity, t),
+    match a {
+        Answer::Refused(_) => old,
+        Answer::Reached(o) => outcome_or(old, o),
     }
-}
-
-// The same of a refusal that gives back the state.
-fn refused_or(old: [f64; 12], fault: Fault) -> [f64; 12]
-    ensures { result ≡ carried_or old (carried_fault fault) }
-{
-    let refused = Answer::Refused(fault);
-    carried_or(old, refused.carried())
 }
 
 // t, p22, p23, and the five numbers of the Sun and of the Moon.
@@ -401,27 +394,6 @@ fn question_of(x: &[f64; 13]) -> Question
     }
 }
 
-// The elements from p28 and p29, written where they are wanted: 0, or 9 to 12, of which 10 and 11 carry two
-// numbers. Constants and question are made here, of what is lent, so that only what is used is read.
-fn elements_into(
-    kind: u32,
-    flag: bool,
-    constants: &[f64; 34],
-    question: &[f64; 13],
-    p28: Root,
-    p29: f64,
-    elements: &mut [f64; 12],
-) -> u32
-    ensures { (result ≡ outcome_number (elements_of (constants_of kind flag constants.now) p28 p29 (question_in question.now)))
-        × (elements.new ≡ outcome_or elements.old (elements_of (constants_of kind flag constants.now) p28 p29 (question_in question.now))) }
-{
-    let c = constants_of(kind, flag, constants);
-    let q = question_of(question);
-    let o = elements_at(c, p28, p29, q);
-    *elements = outcome_or(*elements, o);
-    outcome_number(o)
-}
-
 pub(crate) fn maybe_state(held: u32, x: [f64; 3]) -> MaybeState
     ensures { result ≡ maybe_of held x }
 {
@@ -431,7 +403,7 @@ pub(crate) fn maybe_state(held: u32, x: [f64; 3]) -> MaybeState
     MaybeState::None
 }
 
-// Whether a kind is above 2, or a flag or like number above 1.
+// Whether a kind is above 2, or a flag above 1.
 pub(crate) fn is_wrong(kind: u32, flag: u32, held: u32) -> bool
     ensures { result ≡ is_wrong_of kind flag held }
 {
@@ -439,7 +411,7 @@ pub(crate) fn is_wrong(kind: u32, flag: u32, held: u32) -> bool
 }
 
 // An ask of constants, with a state where `held` is 1: the elements' twelve numbers, the state and the
-// steps; or 1 to 12 and 21, of which 10 and 11 carry two numbers and 21 one; 16 where kind, flag or `held` is wrong.
+// steps; or 1 to 12, of which 10 and 11 carry two numbers; 16 where kind, flag or `held` is wrong.
 #[unsafe(no_mangle)]
 pub extern "C" fn orbt_ask(
     kind: u32,
@@ -451,33 +423,21 @@ pub extern "C" fn orbt_ask(
     elements: &mut [f64; 12],
     steps: &mut u32,
 ) -> u32
-    ensures { AskLeaves (is_wrong_of kind flag held) (asked_from kind flag constants.now held state.old question.now)
-        state.old elements.old steps.old result state.new elements.new steps.new }
+    ensures { AskLeaves kind flag constants.now held state.old question.now elements.old steps.old
+        result state.new elements.new steps.new }
 {
     if is_wrong(kind, flag, held) {
         return 16;
     }
     let c = constants_of(kind, flag == 1, constants);
     let q = question_of(question);
-    let given = maybe_state(held, *state);
-    match given.locate(c, q, is_finite_list(kind, constants)) {
-        Located::Refused(fault) => {
-            *state = state_or(*state, given);
-            *elements = refused_or(*elements, fault);
-            *steps = 0;
-            fault.number()
-        }
-        Located::At {
-            p28,
-            p29,
-            state: moved,
-            steps: made,
-        } => {
-            *state = state_or(*state, moved);
-            *steps = made;
-            elements_into(kind, flag == 1, constants, question, p28, p29, elements)
-        }
-    }
+    let a = maybe_state(held, *state).ask(c, q);
+    let answer = a.answer;
+    let moved = a.state;
+    *state = state_or(*state, moved);
+    *elements = elements_or(*elements, answer);
+    *steps = a.steps;
+    answer_number(answer)
 }
 
 // ---- step
@@ -514,7 +474,7 @@ pub extern "C" fn orbt_step(
         return 16;
     }
     let c = constants_of(kind, false, constants);
-    let s = state_of(*state).step_if(c, back == 1, is_finite_list(kind, constants));
+    let s = state_of(*state).step(c, back == 1);
     *state = stepped_state(s);
     stepped_number(s)
 }

@@ -2,15 +2,14 @@
 ghost use Rattle.std.specs.Prelude.{◌≡◌};
 ghost use Rattle.contents.specs.Find.{counted_in, listed_in, counted_number, listed_number};
 ghost use Rattle.store.specs.Restore.{restored_from};
-ghost use Rattle.orbt.specs.Store.{count_or, satellite_or, flag_number, RestoreLeaves, SaveLeaves};
+ghost use Rattle.orbt.specs.Store.{count_or, satellite_or, flag_number, RestoreLeaves, size_or, SaveLeaves};
 
 use crate::orbit_calls::{is_held, is_wrong, maybe_state, state_or};
-use body::held::Held;
-use constants_list::{constants_of, kind_of, numbers_of};
 use contents::find::{Counted, Listed, record_count, satellite_at};
 use orbit::propagator::Constants;
+use record::{constants_of, kind_of, numbers_of};
 use store::restore::{Restored, restore};
-use store::save::save;
+use store::save::{Stored, save};
 
 // ---- the list of a file
 
@@ -21,7 +20,7 @@ pub extern "C" fn orbt_contents(file: &[u8], count: &mut u32) -> u32
         × (count.new ≡ count_or count.old (counted_in file.now)) }
 {
     match record_count(file) {
-        Counted::Refused(fault) => fault.number(),
+        Counted::FileWrong => 14,
         Counted::Records(n) => {
             *count = n as u32;
             0
@@ -36,7 +35,8 @@ pub extern "C" fn orbt_satellite(file: &[u8], place: u32, satellite: &mut u32) -
         × (satellite.new ≡ satellite_or satellite.old (listed_in file.now place)) }
 {
     match satellite_at(file, place as usize) {
-        Listed::Refused(fault) => fault.number(),
+        Listed::FileWrong => 14,
+        Listed::PastEnd => 15,
         Listed::Satellite(x) => {
             *satellite = x;
             0
@@ -69,16 +69,31 @@ pub extern "C" fn orbt_restore(
         result kind.new flag.new constants.new held.new state.new steps.new }
 {
     match restore(file, satellite) {
-        Restored::Refused(fault) => {
-            *steps = fault.steps();
-            fault.number()
+        Restored::FileWrong => {
+            *steps = 0;
+            14
+        }
+        Restored::SatelliteMissing => {
+            *steps = 0;
+            15
+        }
+        Restored::BodyWrong => {
+            *steps = 0;
+            16
+        }
+        Restored::NumberNotFinite => {
+            *steps = 0;
+            17
+        }
+        Restored::StateWrong { steps: made } => {
+            *steps = made;
+            18
         }
         Restored::Of {
-            held: h,
+            constants: c,
+            state: s,
             steps: made,
         } => {
-            let c = h.constants;
-            let s = h.state;
             *kind = kind_of(c);
             *flag = flag_number(c);
             *constants = numbers_of(c);
@@ -91,6 +106,22 @@ pub extern "C" fn orbt_restore(
 }
 
 // ---- save
+
+fn size_or(old: usize, r: Stored) -> usize
+    ensures { result ≡ size_or old r }
+{
+    match r {
+        Stored::OrbitNonResonant => old,
+        Stored::NoState => old,
+        Stored::FileWrong => old,
+        Stored::BodyWrong => old,
+        Stored::NumberNotFinite => old,
+        Stored::StateWrong => old,
+        Stored::StoreFull => old,
+        Stored::OutputShort => old,
+        Stored::Written(size) => size,
+    }
+}
 
 // Writes the file with one record added or replaced, or gives 4, 5, 14, 16, 17, 18, 20 or 19; 16 first
 // where kind, flag or `held` is wrong.
@@ -113,12 +144,7 @@ pub extern "C" fn orbt_save(
         return 16;
     }
     let c = constants_of(kind, flag == 1, constants);
-    let s = maybe_state(held, *state);
-    let h = Held {
-        constants: c,
-        state: s,
-    };
-    let r = save(file, out, satellite, h);
-    *size = r.size_or(*size);
+    let r = save(file, out, satellite, c, maybe_state(held, *state));
+    *size = size_or(*size, r);
     r.number()
 }

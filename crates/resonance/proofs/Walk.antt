@@ -12,7 +12,6 @@ use lib.Ieee.Fits.{and_l, and_r}
 use lib.Ieee.Scale.{finite}
 use denote.Floats.{is_true}
 use borrow.Author.Tests.{ltb-true, ltb-false, le-ltb}
-use Rattle.floats.specs.Rounded.{◌⊖◌}
 use Rattle.floats.specs.Value.{negative, is_zero, at_most, shorter}
 use Rattle.times.specs.declared.time.Fault.{Fault}
 use Rattle.times.specs.declared.time.Fault.TheVariants.{RatesRefused}
@@ -27,12 +26,11 @@ use Rattle.resonance.specs.declared.advance.Walked.TheVariants.{At as walked, St
 use Rattle.resonance.specs.declared.advance.Advanced.{Advanced}
 use Rattle.resonance.specs.declared.advance.Advanced.TheVariants.{At, Refused}
 use Rattle.resonance.specs.declared.advance.Replayed.{Replayed}
-use Rattle.times.specs.Time.{limit, steps_in, multiple, zero_time, back, placed, refusal, planned, plan, delta, due}
+use Rattle.times.specs.Time.{limit, number, multiple, zero_time, back, placed, refusal, planned, plan, due}
 use Rattle.resonance.specs.State.{fresh_of, same_state, step_of}
 use Rattle.resonance.specs.Advance.{and_then, steps, one_more, made, taken, carried_out, advance_of, counted, walk_by, walk_of, agrees, replay_of}
 use Rattle.times.proofs.Placed.{At as Stands, at_next, due-is, placed-finite}
-use Rattle.times.proofs.Compares.{value-finite, edge-finite}
-use Rattle.times.proofs.Accepted.{past, accepted, accepted-at, accepted-le, accepted-most}
+use Rattle.times.proofs.Accepted.{accepted, accepted-at, accepted-le, accepted-most}
 use Rattle.resonance.proofs.Steps.{step-time, steps_on, made-on, made_all}
 
 -- ---- before each turn: n steps are made, from s to st
@@ -40,41 +38,37 @@ pub record Walk (c : Integrator) (s : ResonanceState) (t : Float) (b : Bool) (st
   pub none : refusal s.t t ≡ Passed
   pub way : back t ≡ b
   pub made : steps c b n s ≡ Some st
-  pub place : Stands b (steps_in s.t + n) st.t
-  pub most : steps_in s.t + n ≤ steps_in t
+  pub place : Stands b (number s.t + n) st.t
+  pub most : number s.t + n ≤ number t
 
 pub walk_start : (c : Integrator) (s : ResonanceState) (t : Float) → refusal s.t t ≡ Passed → Walk c s t (back t) s 0
 walk_start c s t p = record {
   none = p;
   way = refl;
   made = unfold steps in refl;
-  place = subst (λ (i : ℕ). Stands (back t) i s.t) (sym (add-zero (steps_in s.t))) (accepted-at s.t t p);
-  most = le_trans (le_of_eq (add-zero (steps_in s.t))) (accepted-le s.t t p);
+  place = subst (λ (i : ℕ). Stands (back t) i s.t) (sym (add-zero (number s.t))) (accepted-at s.t t p);
+  most = le_trans (le_of_eq (add-zero (number s.t))) (accepted-le s.t t p);
 }
 
 module _ (c : Integrator) (s : ResonanceState) (t : Float) (b : Bool) (st : ResonanceState) (n : ℕ) (f : T (fits binary64 t)) (w : Walk c s t b st n) where
-  walk-due : due b st.t t ≡ ltb (steps_in s.t + n) (steps_in t)
-  walk-due = due-is b (steps_in s.t + n) st.t t f (accepted s.t t w.none).near w.way w.place
+  walk-due : due b st.t t ≡ ltb (number s.t + n) (number t)
+  walk-due = due-is b (number s.t + n) st.t t f (accepted s.t t w.none).near w.way w.place
 
-  pub walk_more : due b st.t t ≡ true → steps_in s.t + n < steps_in t
-  walk_more d = ltb-true (steps_in s.t + n) (steps_in t) (sym walk-due ∙ d)
+  pub walk_more : due b st.t t ≡ true → number s.t + n < number t
+  walk_more d = ltb-true (number s.t + n) (number t) (sym walk-due ∙ d)
 
-  -- both sides of the loop's comparison are finite
-  pub walk-compares : T (finite (t ⊖ delta b)) × T (finite st.t)
-  walk-compares = (edge-finite b t (accepted s.t t w.none).near, value-finite st.t _ _ _ w.place)
-
-  pub walk-few : steps_in t ≤ 2 ^ 20
+  pub walk-few : number t ≤ 2 ^ 20
   walk-few = accepted-most s.t t w.none
 
   pub walk-next : (st' : ResonanceState) → due b st.t t ≡ true → step_of c b st ≡ Some st' → Walk c s t b st' (n + 1)
   walk-next st' d p =
-      let l : steps_in s.t + n < steps_in t = walk_more d in
-      let i : steps_in s.t + (n + 1) ≡ suc (steps_in s.t + n) = ap (λ (k : ℕ). steps_in s.t + k) (add-one n) ∙ add-suc (steps_in s.t) n in
+      let l : number s.t + n < number t = walk_more d in
+      let i : number s.t + (n + 1) ≡ suc (number s.t + n) = ap (λ (k : ℕ). number s.t + k) (add-one n) ∙ add-suc (number s.t) n in
       record {
         none = w.none;
         way = w.way;
         made = steps_on c b n 1 s st w.made ∙ one;
-        place = subst (λ (k : ℕ). Stands b k st'.t) (sym i) (subst (λ (x : Float). Stands b (suc (steps_in s.t + n)) x) (sym (step-time c b st st' p)) (at_next b (steps_in s.t + n) st.t (lt_of_lt_of_le l walk-few) w.place));
+        place = subst (λ (k : ℕ). Stands b k st'.t) (sym i) (subst (λ (x : Float). Stands b (suc (number s.t + n)) x) (sym (step-time c b st st' p)) (at_next b (number s.t + n) st.t (lt_of_lt_of_le l walk-few) w.place));
         most = omega arith;
       }
     where
@@ -85,9 +79,9 @@ module _ (c : Integrator) (s : ResonanceState) (t : Float) (b : Bool) (st : Reso
   pub walk-stop : due b st.t t ≡ true → step_of c b st ≡ None → stopped n ≡ walk_of c s t
   unfolding walk_of
   walk-stop d p =
-      let l : steps_in s.t + n < steps_in t = walk_more d in
-      let r : ℕ = steps_in t - steps_in s.t - suc n in
-      let k : steps_in t - steps_in s.t ≡ n + suc r = omega arith in
+      let l : number s.t + n < number t = walk_more d in
+      let r : ℕ = number t - number s.t - suc n in
+      let k : number t - number s.t ≡ n + suc r = omega arith in
       sym (ap₂ (λ (b : Bool) (k : ℕ). walk_by c s b k) w.way k
       ∙ ap₂ (λ (m : ℕ) (o : MaybeState). counted (n + suc r) m o)
       (made-on c b n (suc r) s st w.made ∙ ap (λ (i : ℕ). n + i) (first_made r) ∙ add-zero n)
@@ -102,20 +96,20 @@ module _ (c : Integrator) (s : ResonanceState) (t : Float) (b : Bool) (st : Reso
   pub walk_end : due b st.t t ≡ false → walked st n ≡ walk_of c s t
   unfolding walk_of
   walk_end d =
-      let l : steps_in t ≤ steps_in s.t + n = ltb-false (steps_in s.t + n) (steps_in t) (sym walk-due ∙ d) in
-      let m : steps_in s.t + n ≤ steps_in t = w.most in
-      let k : steps_in t - steps_in s.t ≡ n = omega arith in
+      let l : number t ≤ number s.t + n = ltb-false (number s.t + n) (number t) (sym walk-due ∙ d) in
+      let m : number s.t + n ≤ number t = w.most in
+      let k : number t - number s.t ≡ n = omega arith in
       sym (ap₂ (λ (b : Bool) (k : ℕ). walk_by c s b k) w.way k ∙ ap (λ (o : MaybeState). counted n (made c b n s) o) w.made)
 
 -- ---- the stepping of an ask: refused by the two times, or by the loop's answer
 pub advance-refused : (c : Integrator) (s : ResonanceState) (t : Float) (f : Fault) → refusal s.t t ≡ refused f → Refused f s ≡ advance_of c s t
 unfolding advance_of plan
-advance-refused c s t f p = sym (ap (λ (r : Checked). carried_out c s (planned r (back t) (steps_in t - steps_in s.t))) p)
+advance-refused c s t f p = sym (ap (λ (r : Checked). carried_out c s (planned r (back t) (number t - number s.t))) p)
 
 pub advance-go : (c : Integrator) (s : ResonanceState) (t : Float) → refusal s.t t ≡ Passed
-    → advance_of c s t ≡ taken s (steps_in t - steps_in s.t) (steps c (back t) (steps_in t - steps_in s.t) s)
+    → advance_of c s t ≡ taken s (number t - number s.t) (steps c (back t) (number t - number s.t) s)
 unfolding advance_of plan
-advance-go c s t p = ap (λ (r : Checked). carried_out c s (planned r (back t) (steps_in t - steps_in s.t))) p
+advance-go c s t p = ap (λ (r : Checked). carried_out c s (planned r (back t) (number t - number s.t))) p
 
 abbrev pub advance_from : ResonanceState → Walked → Advanced
 advance_from s (walked n k) = At n k
@@ -123,7 +117,7 @@ advance_from s (stopped m) = Refused RatesRefused s
 
 pub advance-walk : (c : Integrator) (s : ResonanceState) (t : Float) → refusal s.t t ≡ Passed → advance_from s (walk_of c s t) ≡ advance_of c s t
 unfolding walk_of
-advance-walk c s t p = go (steps_in t - steps_in s.t) (made c (back t) (steps_in t - steps_in s.t) s) (steps c (back t) (steps_in t - steps_in s.t) s) ∙ sym (advance-go c s t p)
+advance-walk c s t p = go (number t - number s.t) (made c (back t) (number t - number s.t) s) (steps c (back t) (number t - number s.t) s) ∙ sym (advance-go c s t p)
   where
     go : (k m : ℕ) (o : MaybeState) → advance_from s (counted k m o) ≡ taken s k o
     go k m None = refl
@@ -136,10 +130,11 @@ not-shorter (inf s) = refl
 not-shorter (fin s m e) = le-ltb (m * up e * 1) (0 * down e) (le_trans (le_of_eq (zero-mul (down e))) zero-le)
 
 pub fresh-asked : (x : Float) → placed x ≡ true → refusal zero_time x ≡ Passed
+unfolding refusal
 fresh-asked x q =
     let p : T (placed x) = subst T (sym q) tt in
     let near : T (at_most limit x) = and_r (multiple x) (at_most limit x) (and_l (multiple x && at_most limit x) (not (negative x && is_zero x)) p) in
-    past zero_time x (is_true (at_most limit x) near) refl ∙ rw (not-shorter x)
+    rw (is_true (finite x) (placed-finite x p), is_true (at_most limit x) near, not-shorter x)
 
 abbrev pub replay_from : ResonanceState → Walked → Replayed
 replay_from z (walked s k) = record { same = same_state s z; steps = k }
@@ -155,7 +150,7 @@ module _ (c : Integrator) (n l : Float) (z : ResonanceState) where
   replay-walk p =
       let f = fresh_of n l in
       let b = back z.t in
-      rw p (ap (λ (k : ℕ). replay_from z (walk_by c f b k)) (sub-zero (steps_in z.t)) ∙ go (steps_in z.t) (steps c b (steps_in z.t) f) refl)
+      rw p (ap (λ (k : ℕ). replay_from z (walk_by c f b k)) (sub-zero (number z.t)) ∙ go (number z.t) (steps c b (number z.t) f) refl)
     where
       go : (k : ℕ) (o : MaybeState) → steps c (back z.t) k (fresh_of n l) ≡ o
           → replay_from z (counted k (made c (back z.t) k (fresh_of n l)) o) ≡ record { same = agrees z o; steps = made c (back z.t) k (fresh_of n l) }

@@ -1,19 +1,16 @@
 -- So many steps, an ask's stepping to its time, and the replay of a stored state. Definitions only. Assumes nothing.
 use Rattle.std.specs.Prelude.{ℕ, zero, suc, ◌-◌, Bool, false, ◌&&◌, cond, Float}
-use Rattle.std.specs.Float.Ieee.{lt, eq}
 use Rattle.times.specs.declared.time.Fault.TheVariants.{RatesRefused}
 use Rattle.rates.specs.declared.Integrator.{Integrator}
 use Rattle.resonance.specs.declared.state.ResonanceState.{ResonanceState}
 use Rattle.resonance.specs.declared.state.MaybeState.{MaybeState}
 use Rattle.resonance.specs.declared.state.MaybeState.TheVariants.{None, Some}
-use Rattle.resonance.specs.declared.advance.Ordering.{Ordering}
-use Rattle.resonance.specs.declared.advance.Ordering.TheVariants.{Less, Equal, Greater}
 use Rattle.resonance.specs.declared.advance.Walked.{Walked}
 use Rattle.resonance.specs.declared.advance.Walked.TheVariants.{At as walked, Stopped as stopped}
 use Rattle.resonance.specs.declared.advance.Advanced.{Advanced}
 use Rattle.resonance.specs.declared.advance.Advanced.TheVariants.{At, Refused}
 use Rattle.resonance.specs.declared.advance.Replayed.{Replayed}
-use Rattle.times.specs.Time.{steps_in, back, placed, Plan, refuse, go, plan}
+use Rattle.times.specs.Time.{number, back, placed, Plan, refuse, go, plan}
 use Rattle.resonance.specs.State.{fresh_of, same_state, step_of}
 
 abbrev pub and_then : MaybeState → (ResonanceState → MaybeState) → MaybeState
@@ -34,7 +31,7 @@ unfoldable pub made : Integrator → Bool → ℕ → ResonanceState → ℕ
 made c b zero s = 0
 made c b (suc k) s = one_more (step_of c b s) (λ n. made c b k n)
 
--- ---- the stepping of an ask: 1, 2, 6, 7, 21 by the two times, and then 8. A refusal hands the state back as it was given
+-- ---- the stepping of an ask: 1, 2, 6, 7 by the two times, and then 8. A refusal hands the state back as it was given
 
 abbrev pub taken : ResonanceState → ℕ → MaybeState → Advanced
 taken s k None = Refused RatesRefused s
@@ -47,11 +44,7 @@ carried_out c s (go b k) = taken s k (steps c b k s)
 unfoldable pub advance_of : Integrator → ResonanceState → Float → Advanced
 advance_of c s t = carried_out c s (plan s.t t)
 
--- ---- the loop, which knows too how many steps it made before one was refused. Its comparison serves private functions only
-
--- less, equal or greater, of two floats that compare
-abbrev pub ordering : Float → Float → Ordering
-ordering x y = cond (lt x y) Less (cond (eq x y) Equal Greater)
+-- ---- the loop, which knows too how many steps it made before one was refused
 
 abbrev pub counted : ℕ → ℕ → MaybeState → Walked
 counted k m None = stopped m
@@ -61,7 +54,7 @@ abbrev pub walk_by : Integrator → ResonanceState → Bool → ℕ → Walked
 walk_by c s b k = counted k (made c b k s) (steps c b k s)
 
 unfoldable pub walk_of : Integrator → ResonanceState → Float → Walked
-walk_of c s t = walk_by c s (back t) (steps_in t - steps_in s.t)
+walk_of c s t = walk_by c s (back t) (number t - number s.t)
 
 -- ---- the replay of a stored state
 
@@ -78,4 +71,4 @@ replay_by c f z b k = record {
 }
 
 unfoldable pub replay_of : Integrator → Float → Float → ResonanceState → Replayed
-replay_of c n lambda-0 z = replay_by c (fresh_of n lambda-0) z (back z.t) (steps_in z.t)
+replay_of c n lambda-0 z = replay_by c (fresh_of n lambda-0) z (back z.t) (number z.t)

@@ -4,8 +4,8 @@ use Rattle.std.specs.Float.Ieee.Scale.{finite}
 use Rattle.floats.specs.Rounded.{◌⊕◌, ◌⊖◌, ◌⊗◌, ◌⊘◌, ◌rem◌, dec}
 use Rattle.floats.specs.Power.{sq}
 use Rattle.floats.specs.Value.{at_most}
-use Rattle.roots.specs.Root.{two_thirds}
-use Rattle.roots.specs.declared.root.Root.TheVariants.{Of as root}
+use Rattle.floats.specs.Root.{two_thirds}
+use Rattle.floats.specs.declared.root.Root.TheVariants.{Of as root}
 use Rattle.orbit.specs.Model.{tau}
 use Rattle.orbit.specs.Propagator.{finite_constants}
 use Rattle.orbit.specs.declared.propagator.Resonance.{Resonance}
@@ -22,6 +22,7 @@ use Rattle.times.specs.declared.time.Checked.{Checked}
 use Rattle.times.specs.declared.time.Checked.TheVariants.{Passed, Refused as refusedCheck}
 use Rattle.rates.specs.declared.Integrator.{Integrator}
 use Rattle.rates.specs.declared.Rates.{Rates}
+use Rattle.rates.specs.declared.Rates.TheVariants.{Of as rates, Refused as no-rates}
 use Rattle.resonance.specs.declared.state.ResonanceState.{ResonanceState}
 use Rattle.resonance.specs.declared.state.MaybeState.{MaybeState}
 use Rattle.resonance.specs.declared.state.MaybeState.TheVariants.{None, Some}
@@ -32,7 +33,7 @@ use Rattle.resonance.specs.declared.ask.Answer.TheVariants.{Refused, Reached}
 use Rattle.resonance.specs.declared.ask.StateAsked.{StateAsked}
 use Rattle.resonance.specs.declared.ask.Asked.{Asked}
 use Rattle.times.specs.Time.{limit}
-use Rattle.resonance.specs.Rates.{lambda_dot, rates_of}
+use Rattle.resonance.specs.Rates.{rates_of}
 use Rattle.resonance.specs.State.{finite_state, integrator}
 use Rattle.resonance.specs.Advance.{advance_of}
 
@@ -61,13 +62,12 @@ p29_of s resonance ni-dot lambda-dot theta q = p29_by resonance (lambda_at s ni-
 
 -- 8 where the state's own rates are refused
 abbrev pub node_by : Constants → Integrator → Float → ResonanceState → Question → Rates → Answer
-node_by c i theta_0 s q r =
-    cond r.ok
-    (Reached (elements_of c
-    (two_thirds (base_of s c.geopotential.ke r.ni_dot r.ni_ddot q.t))
-    (p29_of s i.resonance r.ni_dot (lambda_dot i s) (theta_at theta_0 q.t) q)
-    q))
-    (Refused RatesRefused)
+node_by c i theta_0 s q no-rates = Refused RatesRefused
+node_by c i theta_0 s q (rates ni-dot ni-ddot lambda-dot) =
+    Reached (elements_of c
+    (two_thirds (base_of s c.geopotential.ke ni-dot ni-ddot q.t))
+    (p29_of s i.resonance ni-dot lambda-dot (theta_at theta_0 q.t) q)
+    q)
 
 unfoldable pub node_of : Constants → Integrator → Float → ResonanceState → Question → Answer
 node_of c i theta_0 s q = node_by c i theta_0 s q (rates_of i s)
@@ -82,18 +82,15 @@ refusal_by true true false = refusedCheck NumberNotFinite
 refusal_by true true true = Passed
 
 -- 3 looks at every other number given: those asked with, the state's, and those of the constants, used or not
-abbrev pub numbers_refusal_by : Question → Bool → Bool → Checked
-numbers_refusal_by q state-finite constants-finite = refusal_by (finite q.t) (at_most limit q.t) (finite_question q && state-finite && constants-finite)
-
 unfoldable pub numbers_refusal : Constants → Question → Bool → Checked
-numbers_refusal c q state-finite = numbers_refusal_by q state-finite (finite_constants c)
+numbers_refusal c q state-finite = refusal_by (finite q.t) (at_most limit q.t) (finite_question q && state-finite && finite_constants c)
 
 -- ---- an ask of a state
 
 abbrev pub state_asked : Answer → ResonanceState → ℕ → StateAsked
 state_asked a s k = record { answer = a; state = s; steps = k }
 
--- 1 to 8 and 21 return the state as given and 0 steps
+-- 1 to 8 return the state as given and 0 steps
 abbrev pub given_back : Fault → ResonanceState → StateAsked
 given_back f s = state_asked (Refused f) s 0
 
@@ -102,7 +99,7 @@ abbrev pub reached_by : ResonanceState → ResonanceState → ℕ → Answer →
 reached_by s n k (Refused f) = given_back f s
 reached_by s n k (Reached o) = state_asked (Reached o) n k
 
--- 6, 7 and 21 by the two times, 8 for every state visited, the last included
+-- 6 and 7 by the two times, 8 for every state visited, the last included
 abbrev pub advanced_by : Constants → Integrator → Float → ResonanceState → Question → Advanced → StateAsked
 advanced_by c i theta_0 s q (refusedAdvance f z) = given_back f z
 advanced_by c i theta_0 s q (At n k) = reached_by s n k (node_of c i theta_0 n q)

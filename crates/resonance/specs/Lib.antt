@@ -3,4 +3,3 @@ pub mod Rates
 pub mod State
 pub mod Advance
 pub mod Ask
-pub mod Locate

@@ -12,6 +12,7 @@ use Rattle.orbit.specs.declared.propagator.Constants.{Constants}
 use Rattle.times.specs.declared.time.Fault.TheVariants.{NumberNotFinite, OrbitNonResonant, StateMisplaced, RatesRefused}
 use Rattle.rates.specs.declared.Integrator.{Integrator}
 use Rattle.rates.specs.declared.Rates.{Rates}
+use Rattle.rates.specs.declared.Rates.TheVariants.{Of as rates, Refused as no-rates}
 use Rattle.resonance.specs.declared.state.ResonanceState.{ResonanceState}
 use Rattle.resonance.specs.declared.state.MaybeState.{MaybeState}
 use Rattle.resonance.specs.declared.state.MaybeState.TheVariants.{None, Some}
@@ -19,7 +20,7 @@ use Rattle.resonance.specs.declared.state.TimeAndState.{TimeAndState}
 use Rattle.resonance.specs.declared.state.Stepped.{Stepped}
 use Rattle.resonance.specs.declared.state.Stepped.TheVariants.{To, Refused}
 use Rattle.times.specs.Time.{zero_time, delta, placed}
-use Rattle.resonance.specs.Rates.{lambda_dot, rates_of}
+use Rattle.resonance.specs.Rates.{rates_of}
 
 -- a fresh state has time +0.0, mean motion n and lambda_0
 abbrev pub fresh_of : Float → Float → ResonanceState
@@ -65,12 +66,13 @@ if_finite s = cond (finite_state s) (Some s) None
 unfoldable pub moved_by : ResonanceState → Float → Float → Float → Float → MaybeState
 moved_by s Δ ni-dot ni-ddot lambda-dot = if_finite (moved s Δ ni-dot ni-ddot lambda-dot)
 
-abbrev pub step_by : Bool → ResonanceState → Float → Rates → MaybeState
-step_by b s lambda-dot r = cond r.ok (moved_by s (delta b) r.ni_dot r.ni_ddot lambda-dot) None
+abbrev pub step_by : Bool → ResonanceState → Rates → MaybeState
+step_by b s no-rates = None
+step_by b s (rates ni-dot ni-ddot lambda-dot) = moved_by s (delta b) ni-dot ni-ddot lambda-dot
 
 -- the state after a step of 720 forward or back, with the rates of the old state; none where 8 arises
 unfoldable pub step_of : Integrator → Bool → ResonanceState → MaybeState
-step_of c b s = step_by b s (lambda_dot c s) (rates_of c s)
+step_of c b s = step_by b s (rates_of c s)
 
 -- ---- the public step: refusals 3, 4, 6, 8 in this order. Each hands the state back
 
@@ -89,9 +91,5 @@ abbrev pub stepped_by : Orbit → Bool → ResonanceState → Resonant → Stepp
 stepped_by o b s (No a0) = Refused OrbitNonResonant s
 stepped_by o b s (Yes lambda-0 lambda-dot-0 sidereal-time-0 resonance) = placed_step (integrator o lambda-dot-0 resonance) b s
 
--- with whether the constants are finite
-unfoldable pub stepped_if : Constants → Bool → ResonanceState → Bool → Stepped
-stepped_if c b s fine = cond (fine && finite_state s) (stepped_by c.orbit_0 b s c.resonant) (Refused NumberNotFinite s)
-
-abbrev pub stepped : Constants → Bool → ResonanceState → Stepped
-stepped c b s = stepped_if c b s (finite_constants c)
+unfoldable pub stepped : Constants → Bool → ResonanceState → Stepped
+stepped c b s = cond (finite_constants c && finite_state s) (stepped_by c.orbit_0 b s c.resonant) (Refused NumberNotFinite s)

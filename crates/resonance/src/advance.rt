@@ -1,15 +1,12 @@
 // The stepping of an ask to the last state not beyond its time, and the replay of a stored state:
 // the loop of `integrate` in deep_space.rs, with refusals where it panics or does not end.
-ghost use Rattle.std.specs.Prelude.{◌≡◌, T};
-ghost use Rattle.std.specs.Float.Ieee.Scale.{finite};
-ghost use Rattle.floats.specs.Rounded.{◌⊖◌};
-ghost use Rattle.times.specs.Time.{delta, due, refusal};
-ghost use Rattle.resonance.specs.Refusal.{of_advance};
-ghost use Rattle.resonance.specs.Advance.{ordering, walk_of, advance_of, replay_of};
+ghost use Rattle.std.specs.Prelude.{◌≡◌};
+ghost use Rattle.times.specs.Time.{refusal};
+ghost use Rattle.resonance.specs.Advance.{walk_of, advance_of, replay_of};
 
 use crate::state::{MaybeState, ResonanceState};
 use rates::Integrator;
-use times::time::{Checked, Fault, check_times, delta_t, is_placed};
+use times::time::{Checked, Fault, check_times, is_due, is_placed};
 
 // Where the loop ends: at a state, or before a step that is refused; and the steps made.
 #[derive(Drop)]
@@ -25,61 +22,11 @@ pub enum Advanced {
     Refused { fault: Fault, state: ResonanceState },
 }
 
-impl Advanced {
-    // The refusal's number, 0 where the time is reached.
-    pub fn number(self) -> u32
-        ensures { result ≡ of_advance self }
-    {
-        match self {
-            Advanced::At { state: _, steps: _ } => 0,
-            Advanced::Refused { fault, state: _ } => fault.number(),
-        }
-    }
-}
-
 // Whether a stored state is what its steps give, and how many of them were made.
 #[derive(Drop)]
 pub struct Replayed {
     pub same: bool,
     pub steps: u32,
-}
-
-// The order of two finite floats.
-#[derive(Drop)]
-enum Ordering {
-    Less,
-    Equal,
-    Greater,
-}
-
-// How x compares with y: the Rust's `partial_cmp`, where both are finite and so compare.
-fn compare(x: f64, y: f64) -> Ordering
-    requires t { T (finite x) }
-    requires t_2 { T (finite y) }
-    ensures { result ≡ ordering x y }
-{
-    if x < y {
-        return Ordering::Less;
-    }
-    if x == y {
-        return Ordering::Equal;
-    }
-    Ordering::Greater
-}
-
-// Whether an ask at t steps on from the time s: not where t - Δt is less than s, or greater going
-// back.
-fn is_due(back: bool, s: f64, t: f64) -> bool
-    requires t { T (finite (t ⊖ delta back)) }
-    requires t_2 { T (finite s) }
-    ensures { result ≡ due back s t }
-{
-    let ordering = compare(t - delta_t(back), s);
-    match ordering {
-        Ordering::Less => back,
-        Ordering::Equal => true,
-        Ordering::Greater => !back,
-    }
 }
 
 impl ResonanceState {

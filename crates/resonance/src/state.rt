@@ -1,8 +1,7 @@
 // The state of the resonance integrator and its step: `ResonanceState` of deep_space.rs, by value.
 ghost use Rattle.std.specs.Prelude.{◌≡◌};
 ghost use Rattle.resonance.specs.Rates.{rates_of};
-ghost use Rattle.resonance.specs.Refusal.{of_step};
-ghost use Rattle.resonance.specs.State.{fresh_of, fresh, time_and_state, finite_state, same_state, moved_by, step_of, placed_step, stepped, stepped_if};
+ghost use Rattle.resonance.specs.State.{fresh_of, fresh, time_and_state, finite_state, same_state, moved_by, step_of, placed_step, stepped};
 
 use floats::finite::{bits_of, is_finite};
 use orbit::propagator::{Constants, Resonance, Resonant};
@@ -39,18 +38,6 @@ pub struct TimeAndState {
 pub enum Stepped {
     To(ResonanceState),
     Refused { fault: Fault, state: ResonanceState },
-}
-
-impl Stepped {
-    // The refusal's number, 0 where the step is made.
-    pub fn number(self) -> u32
-        ensures { result ≡ of_step self }
-    {
-        match self {
-            Stepped::To(_) => 0,
-            Stepped::Refused { fault, state: _ } => fault.number(),
-        }
-    }
 }
 
 impl ResonanceState {
@@ -154,30 +141,21 @@ impl ResonanceState {
     pub fn next(self, c: Integrator, back: bool) -> MaybeState
         ensures { result ≡ step_of c back self }
     {
-        let r = self.rates(c);
-        if r.ok {
-            return self.moved(
-                delta_t(back),
-                r.ni_dot,
-                r.ni_ddot,
-                self.mean_motion + c.lambda_dot_0,
-            );
+        match self.rates(c) {
+            Rates::Of {
+                ni_dot,
+                ni_ddot,
+                lambda_dot,
+            } => self.moved(delta_t(back), ni_dot, ni_ddot, lambda_dot),
+            Rates::Refused => MaybeState::None,
         }
-        MaybeState::None
     }
 
     // One step of 720 min, forward or back: refusals 3, 4, 6 and 8, in this order.
     pub fn step(self, constants: Constants, back: bool) -> Stepped
         ensures { result ≡ stepped constants back self }
     {
-        self.step_if(constants, back, constants.is_finite())
-    }
-
-    // The same, where the caller says whether the constants are finite.
-    pub fn step_if(self, constants: Constants, back: bool, is_constants_finite: bool) -> Stepped
-        ensures { result ≡ stepped_if constants back self is_constants_finite }
-    {
-        if !(is_constants_finite & self.is_finite()) {
+        if !(constants.is_finite() & self.is_finite()) {
             return Stepped::Refused {
                 fault: Fault::NumberNotFinite,
                 state: self,

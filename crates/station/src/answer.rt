@@ -1,7 +1,7 @@
 // What an ask answers, in words: elements by value and bits, or a refusal.
 use crate::numbers::{put_bits, put_decimal, put_float};
-use crate::say::{ERR, OUT, put, put_refusal};
-use elements::elements::{Carried, Elements, Outcome};
+use crate::say::{ERR, OUT, put, put_refusal, refuse};
+use elements::elements::{Elements, Outcome};
 use floats::finite::bits_of;
 use resonance::ask::Answer;
 
@@ -38,42 +38,45 @@ pub fn put_answer(a: Answer) {
     put_elements(e);
 }
 
-// An eccentricity and the time, which refusals 10 and 11 carry.
-fn put_carried(eccentricity: f64, t: f64) {
-    put(ERR, b"; ");
+// Refusals 10 and 11 carry an eccentricity and the time.
+fn refuse_carrying(number: u32, eccentricity: f64, t: f64) {
+    put_refusal(ERR, number);
+    put(ERR, b": ");
     put_decimal(ERR, eccentricity, 9, 0);
     put(ERR, b" (");
     put_bits(ERR, eccentricity);
     put(ERR, b") at ");
     put_decimal(ERR, t, 3, 0);
-    put(ERR, b" minutes");
-}
-
-// The state's time, which refusal 21 carries.
-fn put_state_time(t: f64) {
-    put(ERR, b"; the state stands at ");
-    put_decimal(ERR, t, 3, 0);
-    put(ERR, b" minutes");
-}
-
-fn put_carried_by(c: Carried) {
-    match c {
-        Carried::Nothing => {}
-        Carried::StateTime(t) => put_state_time(t),
-        Carried::EccentricityAndTime { eccentricity, t } => put_carried(eccentricity, t),
-    }
+    put(ERR, b" minutes\n");
 }
 
 // Says why an ask is refused, and answers whether it is.
 pub fn is_refused(a: Answer) -> bool {
-    let number = a.number();
-    if number == 0 {
-        return false;
+    match a {
+        Answer::Refused(fault) => {
+            refuse(fault.number());
+            true
+        }
+        Answer::Reached(outcome) => match outcome {
+            Outcome::Of(_) => false,
+            Outcome::AngleRefused => {
+                refuse(9);
+                true
+            }
+            Outcome::OutOfRangeEccentricity { eccentricity, t } => {
+                refuse_carrying(10, eccentricity, t);
+                true
+            }
+            Outcome::OutOfRangePerturbedEccentricity { eccentricity, t } => {
+                refuse_carrying(11, eccentricity, t);
+                true
+            }
+            Outcome::ElementsNotFinite => {
+                refuse(12);
+                true
+            }
+        },
     }
-    put_refusal(ERR, number);
-    put_carried_by(a.carried());
-    put(ERR, b"\n");
-    true
 }
 
 fn are_orbits_same(e: Elements, f: Elements) -> bool {

@@ -1,7 +1,7 @@
 // The operator's program. With no arguments it shows a restart; see `put_usage` for the rest.
+#![tactic(auto)]
 mod answer;
 mod files;
-mod given;
 mod numbers;
 mod orders;
 mod parse;
@@ -15,92 +15,54 @@ mod sets;
 ghost use Rattle.std.specs.Prelude.{◌≤◌};
 
 use elements::elements::{Periodic, Question};
-use files::Keep;
 use orders::Order;
 use parse::{Parsed, Satellite};
-use say::{ERR, OUT, part, put};
-use std::num::wrapping_add_usize;
-
-// Where the command stands among the arguments, how many there are from the one before it on, whether
-// --yes stood after them, and mode and owner of what is written.
-#[derive(Drop)]
-struct Call {
-    base: usize,
-    count: usize,
-    yes: bool,
-    keep: Keep,
-}
+use say::{ERR, put};
 
 // What is to be done with a file.
 #[derive(Drop)]
 enum Task {
+    Example,
     List,
     Check,
     Ask(Order),
     Save(Order),
-    Reset(u32),
-    Remove(u32),
 }
 
-fn put_usage(fd: i32) {
+fn put_usage() {
     put(
-        fd,
+        ERR,
         b"usage: station                 shows a restart on a published orbit
        station example FILE    makes a store of three published orbits
        station list FILE       the satellites of a store
        station check FILE      examines each record of a store
        station ask FILE SATELLITE T [P22 P23 [the ten lunisolar numbers]]
                                the elements of a satellite at a time
-       station save FILE SATELLITE T [--yes]
+       station save FILE SATELLITE T
                                moves a satellite's state to a time, in the store
-       station reset FILE SATELLITE
-                               gives a satellite its fresh state
-       station make FILE SATELLITE NUMBERS [--yes]
-                               adds a satellite, from a file with a name and a number to a line;
-                               makes the store where there is none
-       station remove FILE SATELLITE
-                               takes a satellite out of the store
-       station number X        a number as it is read, by value and by bits
-       station help            this
 T is in minutes since the satellite's epoch. P22 and P23 are the right ascension and the
-argument of perigee there, in radians; without them they are worked out as sgp4 does. The
-lunisolar numbers are the Sun's changes of eccentricity, inclination and mean anomaly, ps4
-and ps5, and the Moon's; left out they count 0. A number is a decimal such as -720, 0.25 or
--8.079320142268698e-9, of at most 17 digits and with an exponent from -30 to 30, or 0x and
-the 16 hexadecimal digits of its bits. --yes is asked for where a save turns the state back
-or takes it more than ten years on, and where a make replaces a record.
+argument of perigee there, in radians; without them they follow from their rates, and the
+lunisolar numbers are 0. A number is a decimal such as -720 or 0.25, of at most 15 digits
+and with no exponent, or 0x and the 16 hexadecimal digits of its bits.
 ",
     );
 }
 
 // ---- the arguments
 
-fn is_arg(i: usize, text: &[u8]) -> bool {
-    let mut word = [0u8; 16];
-    let n = os::arg(i, &mut word);
-    check::same(&word[..n], text)
-}
-
-fn put_about(before: &[u8], word: &[u8], after: &[u8]) {
-    put(ERR, before);
+fn put_no_number(word: &[u8]) {
+    put(ERR, b"station: '");
     put(ERR, word);
-    put(ERR, after);
+    put(
+        ERR,
+        b"' is no number: a decimal of at most 15 digits with no exponent, or 0x and 16 digits\n",
+    );
 }
 
 fn number_of(word: &[u8]) -> Parsed {
     let p = parse::number(word);
-    match p {
-        Parsed::Of(_) => {}
-        Parsed::Wrong => put_about(
-            b"usage: '",
-            word,
-            b"' is no number: a decimal such as -720, 0.25 or 1.5e-9, or 0x and 16 digits\n",
-        ),
-        Parsed::Long => put_about(
-            b"usage: '",
-            word,
-            b"' is longer than is read: at most 17 digits, and an exponent from -30 to 30\n",
-        ),
+    if let Parsed::Wrong = p {
+        put_no_number(word);
     }
     p
 }
@@ -111,14 +73,16 @@ fn number_at(i: usize) -> Parsed {
     number_of(&word[..n])
 }
 
+fn put_no_satellite(word: &[u8]) {
+    put(ERR, b"station: '");
+    put(ERR, word);
+    put(ERR, b"' is no satellite: a whole number below 4294967296\n");
+}
+
 fn satellite_of(word: &[u8]) -> Satellite {
     let s = parse::satellite_number(word);
     if let Satellite::Wrong = s {
-        put_about(
-            b"usage: '",
-            word,
-            b"' is no satellite: a whole number below 4294967296\n",
-        );
+        put_no_satellite(word);
     }
     s
 }
@@ -129,21 +93,18 @@ fn satellite_at(i: usize) -> Satellite {
     satellite_of(&word[..n])
 }
 
-// The numbers from an argument on, as many as were given; 0 for the others. False where one is no number.
-fn read_numbers(x: &mut [f64; 13], first: usize, count: usize) -> bool {
+// The numbers from T on, as many as were given; 0 for the others. False where one is no number.
+fn read_numbers(x: &mut [f64; 13], count: usize) -> bool {
     let mut i: usize = 0;
     while i < 13 {
         if i >= count {
             return true;
         }
-        match number_at(wrapping_add_usize(first, i)) {
+        match number_at(i + 4) {
             Parsed::Of(value) => {
                 x[i] = value;
             }
             Parsed::Wrong => {
-                return false;
-            }
-            Parsed::Long => {
                 return false;
             }
         }
@@ -176,29 +137,15 @@ fn question_of(x: &[f64; 13]) -> Question {
     }
 }
 
-impl Call {
-    // The number of an argument, the command being 1.
-    fn at(self, i: usize) -> usize {
-        wrapping_add_usize(self.base, i)
-    }
-
-    // Whether there are so many arguments and no --yes.
-    fn is_of(self, count: usize) -> bool {
-        (self.count == count) & !self.yes
-    }
-}
-
 // ---- the file
 
-fn perform(path: &[u8], file: &[u8], task: Task, call: Call) {
-    let keep = call.keep;
+fn perform(path: &[u8], file: &[u8], task: Task) {
     match task {
+        Task::Example => {}
         Task::List => records::list(file),
         Task::Check => records::check(file),
         Task::Ask(order) => orders::ask(file, order),
-        Task::Save(order) => orders::save(path, file, order, call.yes, keep),
-        Task::Reset(satellite) => orders::reset(path, file, satellite, keep),
-        Task::Remove(satellite) => orders::remove(path, file, satellite, keep),
+        Task::Save(order) => orders::save(path, file, order),
     }
 }
 
@@ -210,359 +157,121 @@ fn put_too_long() {
     );
 }
 
-// The bytes of a file that is open, into a room, and the file closed; false, and why, where they cannot be had.
-fn has_read(fd: i32, path: &[u8], room: &mut [u8], size: &mut usize) -> bool {
-    let got = libc::read(fd, room);
+fn on_open(path: &[u8], fd: i32, task: Task) {
+    let mut room = io::large_buffer();
+    let got = libc::read(fd, &mut room);
     if got < 0 {
         files::fail(path);
         libc::close(fd);
-        return false;
+        return;
     }
     let more = files::has_more(fd);
     libc::close(fd);
     if more {
         put_too_long();
-        return false;
+        return;
     }
-    *size = io::count(got, room);
-    true
+    let n = io::count(got, &room);
+    perform(path, &room[..n], task);
 }
 
-fn on_open(path: &[u8], fd: i32, task: Task, call: Call) {
-    let mut room = io::large_buffer();
-    let mut n: usize = 0;
-    if has_read(fd, path, &mut room, &mut n) {
-        perform(path, part(&room, 0, n), task, call);
+fn on_path(path: &[u8], task: Task) {
+    if let Task::Example = task {
+        orders::example(path);
+        return;
     }
-}
-
-// Whether a task writes the file.
-fn is_writing(task: Task) -> bool {
-    match task {
-        Task::List => false,
-        Task::Check => false,
-        Task::Ask(_) => false,
-        Task::Save(_) => true,
-        Task::Reset(_) => true,
-        Task::Remove(_) => true,
-    }
-}
-
-// A file that is to be written is opened for that, so that whoever may not write it is refused.
-fn open_for(path: &[u8], writing: bool) -> i32 {
-    if writing {
-        return os::open_update(path);
-    }
-    os::open_read(path)
-}
-
-fn on_path(path: &[u8], task: Task, call: Call) {
-    let keep = call.keep;
-    let writing = is_writing(task);
-    let fd = open_for(path, writing);
+    let fd = os::open_read(path);
     if fd < 0 {
         files::fail(path);
         return;
     }
-    if writing {
-        if !files::is_writable(path, keep) {
-            libc::close(fd);
-            return;
-        }
-    }
-    on_open(path, fd, task, call);
+    on_open(path, fd, task);
 }
 
-fn on_file(task: Task, call: Call) {
+fn on_file(task: Task) {
     let mut path = io::buffer();
-    let n = os::arg(call.at(2), &mut path);
+    let n = os::arg(2, &mut path);
     if os::errno() != 0 {
         files::fail(b"the file's name");
         return;
     }
-    on_path(&path[..n], task, call);
-}
-
-fn on_example(call: Call) {
-    let mut path = io::buffer();
-    let keep = call.keep;
-    let n = os::arg(call.at(2), &mut path);
-    if os::errno() != 0 {
-        files::fail(b"the file's name");
-        return;
-    }
-    orders::example(&path[..n], keep);
-}
-
-// ---- a satellite from its numbers
-
-fn make_in(fd: i32, path: &[u8], satellite: u32, text: &[u8], call: Call) {
-    let mut room = io::large_buffer();
-    let mut n: usize = 0;
-    let keep = call.keep;
-    if !files::is_writable(path, keep) {
-        libc::close(fd);
-        return;
-    }
-    if has_read(fd, path, &mut room, &mut n) {
-        orders::make(path, part(&room, 0, n), satellite, text, call.yes, keep);
-    }
-}
-
-// Where there is no store, one is made.
-fn make_at(path: &[u8], satellite: u32, text: &[u8], call: Call) {
-    let keep = call.keep;
-    let fd = os::open_update(path);
-    if fd >= 0 {
-        make_in(fd, path, satellite, text, call);
-        return;
-    }
-    if os::errno() == libc::ENOENT {
-        orders::make(
-            path,
-            b"ORBT\x01\x00\x00\x00",
-            satellite,
-            text,
-            call.yes,
-            keep,
-        );
-        return;
-    }
-    files::fail(path);
-}
-
-fn make_of(satellite: u32, text: &[u8], call: Call) {
-    let mut path = io::buffer();
-    let n = os::arg(call.at(2), &mut path);
-    if os::errno() != 0 {
-        files::fail(b"the file's name");
-        return;
-    }
-    make_at(&path[..n], satellite, text, call);
-}
-
-fn make_from(numbers: &[u8], satellite: u32, call: Call) {
-    let mut room = io::large_buffer();
-    let mut n: usize = 0;
-    let fd = os::open_read(numbers);
-    if fd < 0 {
-        files::fail(numbers);
-        return;
-    }
-    if has_read(fd, numbers, &mut room, &mut n) {
-        make_of(satellite, part(&room, 0, n), call);
-    }
-}
-
-fn on_make(call: Call) {
-    let mut numbers = io::buffer();
-    let Satellite::Of(satellite) = satellite_at(call.at(3)) else {
-        return;
-    };
-    let n = os::arg(call.at(4), &mut numbers);
-    if os::errno() != 0 {
-        files::fail(b"the name of the numbers' file");
-        return;
-    }
-    make_from(&numbers[..n], satellite, call);
+    on_path(&path[..n], task);
 }
 
 // ---- the commands
 
-fn order_of(satellite: u32, numbers: usize, is_save: bool, call: Call) {
+fn order_of(satellite: u32, numbers: usize, is_save: bool) {
     let mut x: [f64; 13] = [0.0; 13];
-    if !read_numbers(&mut x, call.at(4), numbers) {
+    if !read_numbers(&mut x, numbers) {
         return;
     }
     let order = Order {
         satellite,
         angles: numbers > 1,
-        bodies: numbers > 3,
         q: question_of(&x),
     };
     if is_save {
-        on_file(Task::Save(order), call);
+        on_file(Task::Save(order));
         return;
     }
-    on_file(Task::Ask(order), call);
+    on_file(Task::Ask(order));
 }
 
 // An ask or a save, with so many numbers from T on.
-fn on_satellite(numbers: usize, is_save: bool, call: Call) {
-    if let Satellite::Of(satellite) = satellite_at(call.at(3)) {
-        order_of(satellite, numbers, is_save, call);
+fn on_satellite(numbers: usize, is_save: bool) {
+    if let Satellite::Of(satellite) = satellite_at(3) {
+        order_of(satellite, numbers, is_save);
     }
 }
 
-fn on_reset(call: Call) {
-    if let Satellite::Of(satellite) = satellite_at(call.at(3)) {
-        on_file(Task::Reset(satellite), call);
-    }
-}
-
-fn on_remove(call: Call) {
-    if let Satellite::Of(satellite) = satellite_at(call.at(3)) {
-        on_file(Task::Remove(satellite), call);
-    }
-}
-
-fn on_number(call: Call) {
-    if let Parsed::Of(x) = number_at(call.at(2)) {
-        numbers::put_float(OUT, x);
-        put(OUT, b"\n");
-    }
-}
-
-fn on_ask(call: Call) {
-    if call.is_of(5) {
-        on_satellite(1, false, call);
+// A word, and how many arguments there are with it and the program's name.
+fn command(word: &[u8], count: usize) {
+    if check::same(word, b"example") & (count == 3) {
+        on_file(Task::Example);
         return;
     }
-    if call.is_of(7) {
-        on_satellite(3, false, call);
+    if check::same(word, b"list") & (count == 3) {
+        on_file(Task::List);
         return;
     }
-    if call.is_of(17) {
-        on_satellite(13, false, call);
+    if check::same(word, b"check") & (count == 3) {
+        on_file(Task::Check);
         return;
     }
-    put_usage(ERR);
-}
-
-fn is_help(word: &[u8]) -> bool {
-    check::same(word, b"--help") | check::same(word, b"-h") | check::same(word, b"help")
-}
-
-fn is_of_file(word: &[u8]) -> bool {
-    check::same(word, b"example")
-        | check::same(word, b"list")
-        | check::same(word, b"check")
-        | check::same(word, b"ask")
-        | check::same(word, b"save")
-}
-
-fn is_command(word: &[u8]) -> bool {
-    is_of_file(word)
-        | check::same(word, b"reset")
-        | check::same(word, b"make")
-        | check::same(word, b"remove")
-        | check::same(word, b"number")
-}
-
-// What is wrong with the words given, and what they may be.
-fn refuse_use(word: &[u8]) {
-    if !is_command(word) {
-        put_about(b"usage: station has no command '", word, b"'\n");
-    }
-    put_usage(ERR);
-}
-
-// The commands that change a store.
-fn change(word: &[u8], call: Call) {
-    if check::same(word, b"save") & (call.count == 5) {
-        on_satellite(1, true, call);
-        return;
-    }
-    if check::same(word, b"make") & (call.count == 5) {
-        on_make(call);
-        return;
-    }
-    if check::same(word, b"reset") & call.is_of(4) {
-        on_reset(call);
-        return;
-    }
-    if check::same(word, b"remove") & call.is_of(4) {
-        on_remove(call);
-        return;
-    }
-    refuse_use(word);
-}
-
-fn command(word: &[u8], call: Call) {
-    if is_help(word) {
-        put_usage(OUT);
-        return;
-    }
-    if check::same(word, b"example") & call.is_of(3) {
-        on_example(call);
-        return;
-    }
-    if check::same(word, b"list") & call.is_of(3) {
-        on_file(Task::List, call);
-        return;
-    }
-    if check::same(word, b"check") & call.is_of(3) {
-        on_file(Task::Check, call);
-        return;
-    }
-    if check::same(word, b"number") & call.is_of(3) {
-        on_number(call);
+    if check::same(word, b"save") & (count == 5) {
+        on_satellite(1, true);
         return;
     }
     if check::same(word, b"ask") {
-        on_ask(call);
+        on_ask(count);
         return;
     }
-    change(word, call);
+    put_usage();
 }
 
-fn run(call: Call) {
-    let mut word = [0u8; 64];
-    let n = os::arg(call.at(1), &mut word);
-    command(&word[..n], call);
-}
-
-// With `base` arguments before the command's, and `count` from the one before it on.
-fn start(base: usize, count: usize, keep: Keep) {
-    if count < 2 {
-        restart::show();
+fn on_ask(count: usize) {
+    if count == 5 {
+        on_satellite(1, false);
         return;
     }
-    let last = count - 1;
-    if is_arg(wrapping_add_usize(base, last), b"--yes") {
-        run(Call {
-            base,
-            count: last,
-            yes: true,
-            keep,
-        });
+    if count == 7 {
+        on_satellite(3, false);
         return;
     }
-    run(Call {
-        base,
-        count,
-        yes: false,
-        keep,
-    });
-}
-
-// A whole number among the arguments, and 0 where it is none.
-fn whole_at(i: usize) -> u32 {
-    match satellite_at(i) {
-        Satellite::Of(n) => n,
-        Satellite::Wrong => 0,
+    if count == 17 {
+        on_satellite(13, false);
+        return;
     }
+    put_usage();
 }
 
 fn main() {
     let count = os::arg_count();
-    if (count > 4) & is_arg(1, b"--keep") {
-        let keep = Keep {
-            given: true,
-            mode: whole_at(2),
-            owner: whole_at(3),
-            group: whole_at(4),
-        };
-        if count > 4 {
-            start(4, count - 4, keep);
-        }
+    if count < 2 {
+        restart::show();
         return;
     }
-    let keep = Keep {
-        given: false,
-        mode: 0,
-        owner: 0,
-        group: 0,
-    };
-    start(0, count, keep);
+    let mut word = [0u8; 16];
+    let n = os::arg(1, &mut word);
+    command(&word[..n], count);
 }

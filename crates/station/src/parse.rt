@@ -1,19 +1,13 @@
-// Numbers that an operator types. A decimal has an optional sign, digits with at most one point among or
-// around them, at most 17 from the first that is not 0, and an optional exponent from -30 to 30; it is read
-// to the nearest float. Or 0x and 16 hexadecimal digits: the bits of the float. Not accepted: a space, a
-// comma, a word such as inf or nan.
+// Numbers that an operator types. A decimal has an optional sign, digits, and at most one point among or
+// around them; its digits make a whole number below 2^53 with at most 22 of them after the point, so that
+// one division gives the nearest float. Or 0x and 16 hexadecimal digits: the bits of the float. Not
+// accepted: an exponent, a space, a comma, a word such as inf or nan, more digits than that.
 ghost use Rattle.std.specs.Prelude.{◌≤◌};
-
-use crate::numbers::{POINT, nearest};
-use crate::say::part;
-use bytes::scan::find;
 
 #[derive(Drop)]
 pub enum Parsed {
     Of(f64),
     Wrong,
-    // more digits, or a larger exponent, than are read
-    Long,
 }
 
 #[derive(Drop)]
@@ -29,15 +23,6 @@ struct Reading {
     digits: bool,
     pointed: bool,
     places: u64,
-    ok: bool,
-    long: bool,
-}
-
-// The power of ten after a decimal.
-#[derive(Drop)]
-struct Power {
-    value: u32,
-    negative: bool,
     ok: bool,
 }
 
@@ -68,20 +53,19 @@ fn one_if(b: bool) -> u64
 }
 
 impl Reading {
-    fn wrong(self, long: bool) -> Reading {
+    fn wrong(self) -> Reading {
         Reading {
             value: 0,
             digits: false,
             pointed: false,
             places: 0,
             ok: false,
-            long,
         }
     }
 
     fn point(self) -> Reading {
         if self.pointed {
-            return self.wrong(false);
+            return self.wrong();
         }
         Reading {
             value: self.value,
@@ -89,21 +73,20 @@ impl Reading {
             pointed: true,
             places: 0,
             ok: self.ok,
-            long: false,
         }
     }
 
-    // One digit more, where there is room for it.
+    // One digit more, where the number stays exact.
     fn digit(self, d: u64) -> Reading
         requires { d ≤ 10 }
     {
         let value = self.value;
         let places = self.places;
-        if value > 9999999999999999 {
-            return self.wrong(true);
+        if value > 900719925474098 {
+            return self.wrong();
         }
-        if places > 46 {
-            return self.wrong(true);
+        if places > 21 {
+            return self.wrong();
         }
         Reading {
             value: value * 10 + d,
@@ -111,7 +94,6 @@ impl Reading {
             pointed: self.pointed,
             places: places + one_if(self.pointed),
             ok: self.ok,
-            long: false,
         }
     }
 
@@ -121,32 +103,10 @@ impl Reading {
         }
         let d = decimal_digit(b);
         if d == 10 {
-            return self.wrong(false);
+            return self.wrong();
         }
         self.digit(d)
     }
-}
-
-// x times ten to a power, each product rounded. Ten to the 22 is exact.
-fn raised(x: f64, n: u64) -> f64 {
-    let mut left = n;
-    let mut y = x;
-    while left > 22 {
-        y = y * 1e22;
-        left -= 22;
-    }
-    y * power_of_ten(left)
-}
-
-// x divided by ten to a power, each quotient rounded.
-fn lowered(x: f64, n: u64) -> f64 {
-    let mut left = n;
-    let mut y = x;
-    while left > 22 {
-        y = y / 1e22;
-        left -= 22;
-    }
-    y / power_of_ten(left)
 }
 
 // Ten to a power, exact up to 22.
@@ -160,116 +120,32 @@ fn power_of_ten(n: u64) -> f64 {
     x
 }
 
-// What a decimal without its exponent says.
-fn read(word: &[u8]) -> Reading {
+fn unsigned(word: &[u8]) -> Parsed {
     let mut r = Reading {
         value: 0,
         digits: false,
         pointed: false,
         places: 0,
         ok: true,
-        long: false,
     };
     let mut i: usize = 0;
     while i < word.len() {
         r = r.byte(word[i]);
         if !r.ok {
-            return r;
+            return Parsed::Wrong;
         }
         i += 1;
     }
-    r
-}
-
-fn power_by(s: Satellite, negative: bool) -> Power {
-    match s {
-        Satellite::Of(value) => Power {
-            value,
-            negative,
-            ok: true,
-        },
-        Satellite::Wrong => Power {
-            value: 0,
-            negative,
-            ok: false,
-        },
-    }
-}
-
-// What an exponent says, after its letter.
-fn exponent(word: &[u8]) -> Power {
-    let b = byte_at(word, 0);
-    if b == b'-' {
-        return power_by(satellite_number(after(word, 1)), true);
-    }
-    if b == b'+' {
-        return power_by(satellite_number(after(word, 1)), false);
-    }
-    power_by(satellite_number(word), false)
-}
-
-fn least(a: u64, b: u64) -> u64
-    ensures { (result ≤ a) × (result ≤ b) }
-{
-    if a < b { a } else { b }
-}
-
-// The nearest float to value, with so many places after the point, times ten to a power.
-fn float_of(value: u64, places: u64, power: u32, negative: bool) -> f64 {
-    if value == 0 {
-        return 0.0;
-    }
-    let after_point = least(places, 60);
-    let by = least(power as u64, 30);
-    let whole = std::num::nearest_u64_to_f64(value);
-    if negative {
-        let down = after_point + by;
-        return nearest(value, POINT + down as usize, lowered(whole, down));
-    }
-    let end = POINT + after_point as usize - by as usize;
-    nearest(value, end, lowered(raised(whole, by), after_point))
-}
-
-fn decimal(r: Reading, p: Power) -> Parsed {
-    if r.long {
-        return Parsed::Long;
-    }
-    if !(r.ok & r.digits & p.ok) {
+    if !r.digits {
         return Parsed::Wrong;
     }
-    if p.value > 30 {
-        return Parsed::Long;
-    }
-    Parsed::Of(float_of(r.value, r.places, p.value, p.negative))
-}
-
-// Where the letter of an exponent is, or the word's end.
-fn letter_at(word: &[u8]) -> usize {
-    let small = find(word, 0, word.len(), b'e');
-    if small < word.len() {
-        return small;
-    }
-    find(word, 0, word.len(), b'E')
-}
-
-fn unsigned(word: &[u8]) -> Parsed {
-    let at = letter_at(word);
-    if at < word.len() {
-        return decimal(read(part(word, 0, at)), exponent(after(word, at + 1)));
-    }
-    let none = Power {
-        value: 0,
-        negative: false,
-        ok: true,
-    };
-    decimal(read(word), none)
+    Parsed::Of(std::num::nearest_u64_to_f64(r.value) / power_of_ten(r.places))
 }
 
 fn negated(p: Parsed) -> Parsed {
     match p {
         Parsed::Of(x) => Parsed::Of(-x),
         Parsed::Wrong => Parsed::Wrong,
-        Parsed::Long => Parsed::Long,
     }
 }
 

@@ -1,4 +1,4 @@
-// The question that stands for a time alone: node and perigee as sgp4 works them out, and no lunisolar numbers.
+// The question that stands for a time alone: node and perigee by their rates, and no lunisolar numbers.
 use elements::elements::{Periodic, Question};
 use orbit::propagator::Constants;
 
@@ -23,9 +23,9 @@ pub fn at_angles(t: f64, p22: f64, p23: f64) -> Question {
     }
 }
 
-// p₂₂ = Ω₀ + Ω̇ t + k₀ t², p₂₃ = ω₀ + ω̇ t
+// p₂₂ = Ω₀ + Ω̇ t, p₂₃ = ω₀ + ω̇ t
 pub fn at_time(c: Constants, t: f64) -> Question {
-    let p22 = c.orbit_0.right_ascension + c.right_ascension_dot * t + c.k0 * (t * t);
+    let p22 = c.orbit_0.right_ascension + c.right_ascension_dot * t;
     let p23 = c.orbit_0.argument_of_perigee + c.argument_of_perigee_dot * t;
     at_angles(t, p22, p23)
 }

@@ -3,14 +3,13 @@ ghost use Rattle.std.specs.Prelude.{◌≤◌};
 
 use crate::numbers::{put_decimal, put_whole};
 use crate::say::{ERR, OUT, put, put_refusal, refuse, span};
-use body::examine::{Body, BodyFault};
+use body::examine::Body;
 use body::floats_at::f64_at;
-use body::layout::Layout;
 use body::read::{is_shaped, read_body, state_start};
-use constants_list::kind_of;
 use contents::find::{Counted, Found, Listed, find, record_count, satellite_at};
 use floats::finite::magnitude;
 use orbit::propagator::Constants;
+use record::kind_of;
 use resonance::state::MaybeState;
 use times::time::is_placed;
 
@@ -18,8 +17,8 @@ use times::time::is_placed;
 const LONG: f64 = 72000000.0;
 
 // Refusal 14, and what may be behind it.
-pub fn refuse_file(number: u32, file: &[u8]) {
-    put_refusal(ERR, number);
+pub fn refuse_file(file: &[u8]) {
+    put_refusal(ERR, 14);
     if file.len() == 0 {
         put(
             ERR,
@@ -93,7 +92,7 @@ fn wide(kind: u8) -> u32 {
 
 // The time of a body's state, and 0 where it has none or is out of shape.
 fn time_of(body: &[u8]) -> f64 {
-    if !is_shaped(Layout::One, body) {
+    if !is_shaped(body) {
         return 0.0;
     }
     if body.len() == 0 {
@@ -103,7 +102,7 @@ fn time_of(body: &[u8]) -> f64 {
     if kind == 0 {
         return 0.0;
     }
-    f64_at(body, state_start(Layout::One, wide(kind)))
+    f64_at(body, state_start(wide(kind)))
 }
 
 // Says that a record's replay is long, before it is made.
@@ -127,11 +126,11 @@ fn put_bad(number: u32) -> u64
     1
 }
 
-fn put_wrong_state(number: u32, steps: u32) -> u64
+fn put_wrong_state(steps: u32) -> u64
     ensures { result ≤ 1 }
 {
     put(OUT, b"BAD, ");
-    put_refusal(OUT, number);
+    put_refusal(OUT, 18);
     put(OUT, b" (after ");
     put_steps(steps);
     put(OUT, b")\n");
@@ -143,14 +142,14 @@ fn put_body(b: Body) -> u64
     ensures { result ≤ 1 }
 {
     match b {
-        Body::Refused(fault) => match fault {
-            BodyFault::Wrong => put_bad(fault.number()),
-            BodyFault::NumberNotFinite => put_bad(fault.number()),
-            BodyFault::StateWrong { steps } => put_wrong_state(fault.number(), steps),
-        },
-        Body::Of { held, steps } => {
-            let constants = held.constants;
-            let state = held.state;
+        Body::Wrong => put_bad(16),
+        Body::NumberNotFinite => put_bad(17),
+        Body::StateWrong { steps } => put_wrong_state(steps),
+        Body::Of {
+            constants,
+            state,
+            steps,
+        } => {
             put_record(constants, state, steps);
             0
         }
@@ -161,7 +160,7 @@ fn check_body(satellite: u32, body: &[u8]) -> u64
     ensures { result ≤ 1 }
 {
     tell_long(satellite, body);
-    let b = read_body(Layout::One, body);
+    let b = read_body(body);
     put_satellite(satellite);
     put(OUT, b": ");
     put_body(b)
@@ -171,7 +170,8 @@ fn check_satellite(file: &[u8], satellite: u32) -> u64
     ensures { result ≤ 1 }
 {
     match find(file, satellite) {
-        Found::Refused(fault) => put_bad(fault.number()),
+        Found::FileWrong => put_bad(14),
+        Found::SatelliteMissing => put_bad(15),
         Found::Body(offset, size) => check_body(satellite, span(file, offset, size)),
     }
 }
@@ -181,7 +181,8 @@ fn check_at(file: &[u8], i: usize) -> u64
     ensures { result ≤ 1 }
 {
     match satellite_at(file, i) {
-        Listed::Refused(fault) => put_bad(fault.number()),
+        Listed::FileWrong => put_bad(14),
+        Listed::PastEnd => put_bad(15),
         Listed::Satellite(satellite) => check_satellite(file, satellite),
     }
 }
@@ -220,14 +221,15 @@ fn check_all(file: &[u8], n: usize) {
 // Each record of a store, a line to each as it is done.
 pub fn check(file: &[u8]) {
     match record_count(file) {
-        Counted::Refused(fault) => refuse_file(fault.number(), file),
+        Counted::FileWrong => refuse_file(file),
         Counted::Records(n) => check_all(file, n),
     }
 }
 
 fn list_at(file: &[u8], i: usize) {
     match satellite_at(file, i) {
-        Listed::Refused(fault) => refuse(fault.number()),
+        Listed::FileWrong => refuse(14),
+        Listed::PastEnd => refuse(15),
         Listed::Satellite(satellite) => {
             put_satellite(satellite);
             put(OUT, b"\n");
@@ -247,7 +249,7 @@ fn list_all(file: &[u8], n: usize) {
 // The satellites of a store.
 pub fn list(file: &[u8]) {
     match record_count(file) {
-        Counted::Refused(fault) => refuse_file(fault.number(), file),
+        Counted::FileWrong => refuse_file(file),
         Counted::Records(n) => list_all(file, n),
     }
 }

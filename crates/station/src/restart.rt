@@ -105,7 +105,7 @@ fn resume(fresh: Controller, file: &[u8]) -> Controller {
             OUT,
             b"        a new one, started with Italsat 2, is restored from them: ",
         );
-        put_whole(OUT, answer.steps() as u64);
+        put_whole(OUT, r.steps as u64);
         put(OUT, b" steps replayed\n");
     } else {
         refuse(number);

@@ -2,7 +2,6 @@
 ghost use Rattle.std.specs.Prelude.{◌≤◌, length};
 
 use bytes::scan::find;
-use words::words;
 
 pub const OUT: i32 = libc::STDOUT_FILENO;
 
@@ -16,11 +15,6 @@ pub fn put(fd: i32, text: &[u8]) {
     if fd == OUT {
         io::write_all(ERR, b"station: standard output cannot be written\n");
     }
-}
-
-// Whether a text reached standard output.
-pub fn is_said(text: &[u8]) -> bool {
-    io::write_all(OUT, text)
 }
 
 // The bytes from a to b, or all of them where s has no such part.
@@ -44,7 +38,7 @@ pub fn span(s: &[u8], at: usize, size: usize) -> &[u8] {
 }
 
 // Where line n of a text begins, the first being 1, or the text's end.
-pub fn line_start(text: &[u8], n: u32) -> usize
+fn line_start(text: &[u8], n: u32) -> usize
     ensures { result ≤ length text.now }
 {
     let mut left = n;
@@ -61,18 +55,39 @@ pub fn line_start(text: &[u8], n: u32) -> usize
     i
 }
 
-// Line n of a text, the first being 1, without its end; nothing past the last.
-pub fn line(text: &[u8], n: u32) -> &[u8] {
+fn put_line(fd: i32, text: &[u8], n: u32) {
     let begin = line_start(text, n);
     let end = find(text, begin, text.len(), b'\n');
-    part(text, begin, end)
+    put(fd, part(text, begin, end));
 }
 
-// What a refusal's number means.
+// What a refusal's number means: its line here.
 fn put_meaning(fd: i32, number: u32) {
-    let mut room = [0u8; 128];
-    let n = words(number, &mut room);
-    put(fd, part(&room, 0, n));
+    put_line(
+        fd,
+        b"the time is not finite
+the time is beyond 754,974,720 minutes
+another number given is not finite
+a state is given, and the orbit is non-resonant
+no state is given, and the orbit is resonant
+the state's time is -0.0, no multiple of 720, or beyond the limit
+the state has gone the other way, or past the time asked
+the resonance cannot be followed there: an angle or a number on the way is out of range
+an angle is beyond 1,048,576
+the eccentricity is out of range
+the perturbed eccentricity is outside 0 to 1
+a root or power is taken of no such number, or an element is not finite
+a number built is not finite
+the file is no store: its header or contents are wrong
+the satellite is not in the file
+the record's kind, flag, zero bytes or length is wrong, or its kind is not its orbit's class
+a number of the record is not finite
+the stored state is not the one that its orbit steps to from fresh
+the new file does not fit the room for it
+the store is full: it has 128 satellites
+",
+        number,
+    );
 }
 
 // A refusal: its number and its words, with no line end.

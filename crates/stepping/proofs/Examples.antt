@@ -10,4 +10,4 @@ use Rattle.stepping.specs.Examples.{Examples}
 
 pub examples : Examples
 unfolding advance_of plan back refusal one_day half_day in_range dec round sum add sub neg lt le
-examples c n l = ((refl, refl), ((refl, refl), ((refl, refl), ((refl, refl), ((refl, refl), ((refl, refl), (refl, ((refl, refl), ((refl, refl), ((refl, refl), (refl, ((refl, refl), ((refl, refl), (refl, (refl, (refl, (refl, (refl, tt))))))))))))))))))
+examples c n l = ((refl, refl), ((refl, refl), ((refl, refl), ((refl, refl), ((refl, refl), ((refl, refl), (refl, ((refl, refl), ((refl, refl), (refl, (refl, (refl, (refl, (refl, (refl, tt)))))))))))))))

@@ -25,7 +25,7 @@ use Rattle.resonance.specs.declared.state.MaybeState.{MaybeState}
 use Rattle.resonance.specs.declared.state.MaybeState.TheVariants.{None, Some}
 use Rattle.resonance.specs.declared.advance.Advanced.{Advanced}
 use Rattle.resonance.specs.declared.advance.Advanced.TheVariants.{At, Refused}
-use Rattle.times.specs.Time.{limit, steps_in, time_of, back, delta, refusal}
+use Rattle.times.specs.Time.{limit, number, time_of, back, delta, refusal}
 use Rattle.resonance.specs.State.{fresh_of, step_of}
 use Rattle.resonance.specs.Advance.{and_then, steps, one_more, made, taken}
 use Rattle.stepping.specs.Laws.{ExactStep, ExactTest, ExactRest, Composed, Timed, AllMade, FirstRefused, Reported}
@@ -198,21 +198,21 @@ pub reported : Reported
 reported c s t n k f p = by (refusal s.t t) refl
   where
     K : ℕ
-    K = steps_in t - steps_in s.t
+    K = number t - number s.t
 
     Says : ResonanceState → ℕ → Type 0
-    Says n k = (steps_in s.t ≤ steps_in t) × (k ≡ steps_in t - steps_in s.t) × (n.t ≡ time_of (back t) (steps_in t))
+    Says n k = (number s.t ≤ number t) × (k ≡ number t - number s.t) × (n.t ≡ time_of (back t) (number t))
 
     ends : refusal s.t t ≡ Passed → (o : MaybeState) → steps c (back t) K s ≡ o → taken s K o ≡ At n k → Says n k
     ends r None e q = not_at RatesRefused s n k q
     ends r (Some x) e q =
         let x-is : x ≡ n = first q in
         let le = accepted-le s.t t r in
-        let on : steps_in s.t + K ≡ steps_in t = add-sub_of_le le in
+        let on : number s.t + K ≡ number t = add-sub_of_le le in
         let most = accepted-most s.t t r in
         let e' : steps c (back t) K s ≡ Some n = e ∙ ap Some x-is in
-        let place : Stands (back t) (steps_in t) n.t = subst (λ (i : ℕ). Stands (back t) i n.t) on (steps-place c (back t) K (steps_in s.t) s n (le_trans (le_of_eq on) most) (accepted-at s.t t r) e') in
-        (le, sym (second q), time-is (back t) (steps_in t) n.t most (steps-fit c (back t) K s n f e') place)
+        let place : Stands (back t) (number t) n.t = subst (λ (i : ℕ). Stands (back t) i n.t) on (steps-place c (back t) K (number s.t) s n (le_trans (le_of_eq on) most) (accepted-at s.t t r) e') in
+        (le, sym (second q), time-is (back t) (number t) n.t most (steps-fit c (back t) K s n f e') place)
       where
         first : At x K ≡ At n k → x ≡ n
         first q = cc

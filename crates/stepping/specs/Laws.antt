@@ -10,7 +10,7 @@ use Rattle.rates.specs.declared.Integrator.{Integrator}
 use Rattle.resonance.specs.declared.state.ResonanceState.{ResonanceState}
 use Rattle.resonance.specs.declared.state.MaybeState.TheVariants.{None, Some}
 use Rattle.resonance.specs.declared.advance.Advanced.TheVariants.{At}
-use Rattle.times.specs.Time.{limit, steps_in, time_of, back, delta, due}
+use Rattle.times.specs.Time.{limit, number, time_of, back, delta, due}
 use Rattle.resonance.specs.State.{fresh_of}
 use Rattle.resonance.specs.Advance.{and_then, steps, made, advance_of}
 
@@ -22,14 +22,14 @@ ExactStep = (b : Bool) (i : ℕ) → i < 2 ^ 20 → time_of b i ⊕ delta b ≡ 
 
 -- the loop's test on floats is true exactly while the state's number is below t's: t - 720 is not below the state's time, and t + 720 not above it going back
 abbrev pub ExactTest : Type 0
-ExactTest = (b : Bool) (i : ℕ) (t : Float) → i ≤ 2 ^ 20 → T (fits binary64 t) → T (at_most limit t) → back t ≡ b → due b (time_of b i) t ≡ ltb i (steps_in t)
+ExactTest = (b : Bool) (i : ℕ) (t : Float) → i ≤ 2 ^ 20 → T (fits binary64 t) → T (at_most limit t) → back t ≡ b → due b (time_of b i) t ≡ ltb i (number t)
 
 -- the rest of the time, t less that of the last state, is |t|'s remainder by 720, exact, with t's sign; where nothing is left of a step or more it is +0.0
 abbrev pub ExactRest : Type 0
 ExactRest = (s : Bool) (m : ℕ) (e : ℤ) → T (fits binary64 (fin s m e)) → T (at_most limit (fin s m e))
     → let t = fin s m e in
     let r = m * up e % (720 * down e) in
-    HasValue (t ⊖ time_of (back t) (steps_in t)) (s && (ltb 0 r || eqb (steps_in t) 0)) r (down e)
+    HasValue (t ⊖ time_of (back t) (number t)) (s && (ltb 0 r || eqb (number t) 0)) r (down e)
 
 -- ---- steps
 
@@ -53,4 +53,4 @@ FirstRefused = (c : Integrator) (b : Bool) (k : ℕ) (s : ResonanceState) → st
 -- ---- the stepping of an ask: its steps are t's number less that of the state's time, and it ends at the last multiple of 720 not beyond t, bit for bit
 abbrev pub Reported : Type 0
 Reported = (c : Integrator) (s : ResonanceState) (t : Float) (n : ResonanceState) (k : ℕ) → T (fits binary64 s.t) → advance_of c s t ≡ At n k
-    → (steps_in s.t ≤ steps_in t) × (k ≡ steps_in t - steps_in s.t) × (n.t ≡ time_of (back t) (steps_in t))
+    → (number s.t ≤ number t) × (k ≡ number t - number s.t) × (n.t ≡ time_of (back t) (number t))

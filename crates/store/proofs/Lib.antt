@@ -1,4 +1,3 @@
 pub mod Answer
 pub mod Kept
 pub mod Examples
-pub mod Owned

@@ -5,33 +5,25 @@ use Rattle.orbit.specs.declared.propagator.Constants.{Constants}
 use Rattle.resonance.specs.declared.state.MaybeState.TheVariants.{None}
 use Rattle.stepping.specs.Examples.{Examples}
 use Rattle.contents.specs.Examples.{empty, seven, Empty}
-use Rattle.contents.specs.declared.fault.FileFault.TheVariants.{SatelliteMissing, OutputShort}
 use Rattle.body.specs.Body.{body_of}
 use Rattle.body.specs.Examine.{examined}
-use Rattle.body.specs.declared.held.Held.{Held}
-use Rattle.body.specs.declared.layout.Layout.TheVariants.{One}
 use Rattle.body.specs.declared.examine.Body.TheVariants as B
 use Rattle.store.specs.Restore.{restored_from}
-use Rattle.store.specs.Save.{saved, saved_file}
-use Rattle.store.specs.declared.fault.StoreFault.TheVariants as S
-use Rattle.store.specs.declared.restore.Restored.TheVariants as R
-use Rattle.store.specs.declared.save.Saved.TheVariants.{Refused, Written}
-
--- constants alone, as a non-resonant orbit has them
-abbrev pub plain : Constants → Held
-plain c = record { constants = c; state = None }
+use Rattle.store.specs.Save.{stored, stored_file}
+use Rattle.store.specs.declared.restore.Restored.TheVariants.{SatelliteMissing}
+use Rattle.store.specs.declared.save.Stored.TheVariants.{OutputShort, Written}
 
 -- a non-resonant record for satellite 7, saved into the empty file: 196 bytes, `seven` and the body; refused 19 where there is a byte too little
 pub record Seven (c : Constants) : Type 0 where
-  pub file : saved_file empty 7 (plain c) ≡ seven ++ body_of One (plain c)
-  pub size : length (saved_file empty 7 (plain c)) ≡ 196
-  pub written : examined (plain c) ≡ B.Of (plain c) 0 → saved empty 7 (plain c) 196 ≡ Written 196
-  pub short : examined (plain c) ≡ B.Of (plain c) 0 → saved empty 7 (plain c) 195 ≡ Refused (S.File OutputShort)
+  pub file : stored_file empty 7 c None ≡ seven ++ body_of c None
+  pub size : length (stored_file empty 7 c None) ≡ 196
+  pub written : examined c None ≡ B.Of c None 0 → stored empty 7 c None 196 ≡ Written 196
+  pub short : examined c None ≡ B.Of c None 0 → stored empty 7 c None 195 ≡ OutputShort
 
 -- (a) to (l), the table of crate stepping; (m), the empty file: it is right with count 0, any restore from it is refused 15, and a save of satellite 7
 -- makes of it the file of document 01
 pub record Marked : Type 0 where
   pub a_to_l : Examples
   pub m_file : Empty
-  pub m_restore : (x : ℕ) → restored_from empty x ≡ R.Refused (S.File SatelliteMissing)
+  pub m_restore : (x : ℕ) → restored_from empty x ≡ SatelliteMissing
   pub m_save : (c : Constants) (a0 : Float) → c.resonant ≡ No a0 → Seven c

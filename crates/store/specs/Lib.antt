@@ -1,4 +1,3 @@
-pub mod Fault
 pub mod Restore
 pub mod Save
 pub mod Kept

@@ -1,53 +1,47 @@
 // A restore: header, contents and the one body are checked, and constants and state come together.
 ghost use Rattle.std.specs.Prelude.{◌≡◌};
-ghost use Rattle.store.specs.Restore.{restored_number, restored_steps, of_body, restored_from};
+ghost use Rattle.store.specs.Restore.{of_body, restored_from};
 
-use crate::fault::StoreFault;
 use body::examine::Body;
-use body::held::Held;
-use body::layout::Layout;
 use body::read::read_body;
 use contents::find::{Found, find};
+use orbit::propagator::Constants;
+use resonance::state::MaybeState;
 
 // The answer of a restore.
 #[derive(Drop)]
 pub enum Restored {
-    Refused(StoreFault), // 14 to 18
+    FileWrong, // refusal 14
+    SatelliteMissing, // refusal 15
+    BodyWrong, // refusal 16
+    NumberNotFinite, // refusal 17
+    StateWrong {
+        steps: u32,
+    }, // refusal 18, and the steps of the replay made before it
     Of {
-        held: Held,
+        constants: Constants,
+        state: MaybeState,
         steps: u32, // those of the replay
     },
 }
 
-impl Restored {
-    // The refusal's number, and 0 where constants and state come back.
-    pub fn number(self) -> u32
-        ensures { result ≡ restored_number self }
-    {
-        match self {
-            Restored::Refused(fault) => fault.number(),
-            Restored::Of { held: _, steps: _ } => 0,
-        }
-    }
-
-    // The steps of the replay, those before a refusal too.
-    pub fn steps(self) -> u32
-        ensures { result ≡ restored_steps self }
-    {
-        match self {
-            Restored::Refused(fault) => fault.steps(),
-            Restored::Of { held: _, steps } => steps,
-        }
-    }
-}
-
 // What a body says, as the answer of a restore.
-pub fn of_body(body: Body) -> Restored
+fn of_body(body: Body) -> Restored
     ensures { result ≡ of_body body }
 {
     match body {
-        Body::Refused(fault) => Restored::Refused(StoreFault::Body(fault)),
-        Body::Of { held, steps } => Restored::Of { held, steps },
+        Body::Wrong => Restored::BodyWrong,
+        Body::NumberNotFinite => Restored::NumberNotFinite,
+        Body::StateWrong { steps } => Restored::StateWrong { steps },
+        Body::Of {
+            constants,
+            state,
+            steps,
+        } => Restored::Of {
+            constants,
+            state,
+            steps,
+        },
     }
 }
 
@@ -56,10 +50,11 @@ pub fn restore(file: &[u8], satellite: u32) -> Restored
     ensures { result ≡ restored_from file.now satellite }
 {
     match find(file, satellite) {
-        Found::Refused(fault) => Restored::Refused(StoreFault::File(fault)),
+        Found::FileWrong => Restored::FileWrong,
+        Found::SatelliteMissing => Restored::SatelliteMissing,
         Found::Body(offset, size) => {
             let end = offset + size;
-            of_body(read_body(Layout::One, &file[offset..end]))
+            of_body(read_body(&file[offset..end]))
         }
     }
 }

@@ -1,43 +1,43 @@
 // A save: constants with none or a state, examined and written into a new file as one record.
 ghost use Rattle.std.specs.Prelude.{◌≡◌, length};
-ghost use Rattle.store.specs.Save.{saved_number, size_or, is_resonant as is_resonant_kind, is_given as is_given_state, of_spliced, saved_file, saved, output_after};
+ghost use Rattle.store.specs.Save.{number as stored_number, is_resonant as is_resonant_kind, is_given as is_given_state, of_saved, stored_file, stored, output_after};
 
-use crate::fault::StoreFault;
 use body::bytes::{body_of, body_size};
 use body::examine::{Body, examine};
-use body::held::Held;
-use body::layout::Layout;
-use contents::fault::FileFault;
 use contents::format::is_right;
-use contents::splice::{Spliced, splice};
+use contents::save::{Saved, save as save_body};
 use orbit::propagator::{Constants, Resonant};
 use resonance::state::MaybeState;
 
 // The answer of a save.
 #[derive(Drop)]
-pub enum Saved {
-    Refused(StoreFault), // 4, 5, 14, 16 to 20
+pub enum Stored {
+    OrbitNonResonant, // refusal 4
+    NoState, // refusal 5
+    FileWrong, // refusal 14
+    BodyWrong, // refusal 16
+    NumberNotFinite, // refusal 17
+    StateWrong, // refusal 18
+    StoreFull, // refusal 20
+    OutputShort, // refusal 19
     Written(usize), // the length of the new file
 }
 
-impl Saved {
+impl Stored {
     // The refusal's number, and 0 where the new file was written.
     pub fn number(self) -> u32
-        ensures { result ≡ saved_number self }
+        ensures { result ≡ stored_number self }
     {
         match self {
-            Saved::Refused(fault) => fault.number(),
-            Saved::Written(_) => 0,
-        }
-    }
-
-    // The length of the new file, or another number where none was written.
-    pub fn size_or(self, other: usize) -> usize
-        ensures { result ≡ size_or other self }
-    {
-        match self {
-            Saved::Refused(_) => other,
-            Saved::Written(size) => size,
+            Stored::OrbitNonResonant => 4,
+            Stored::NoState => 5,
+            Stored::FileWrong => 14,
+            Stored::BodyWrong => 16,
+            Stored::NumberNotFinite => 17,
+            Stored::StateWrong => 18,
+            Stored::StoreFull => 20,
+            Stored::OutputShort => 19,
+            Stored::Written(_) => 0,
         }
     }
 }
@@ -68,38 +68,50 @@ fn is_given(s: MaybeState) -> bool
 }
 
 // What the file's half of a save says, as the answer of the whole.
-fn of_spliced(spliced: Spliced) -> Saved
-    ensures { result ≡ of_spliced spliced }
+fn of_saved(saved: Saved) -> Stored
+    ensures { result ≡ of_saved saved }
 {
-    match spliced {
-        Spliced::Refused(fault) => Saved::Refused(StoreFault::File(fault)),
-        Spliced::Written(size) => Saved::Written(size),
+    match saved {
+        Saved::FileWrong => Stored::FileWrong,
+        Saved::StoreFull => Stored::StoreFull,
+        Saved::OutputShort => Stored::OutputShort,
+        Saved::Written(size) => Stored::Written(size),
     }
 }
 
 // Writes the old file with the record of a satellite added or replaced into `out`.
-pub fn save(file: &[u8], out: &mut [u8], satellite: u32, held: Held) -> Saved
-    ensures { (result ≡ saved file.now satellite held (length out.old))
-        × (out.new ≡ output_after result (saved_file file.now satellite held) out.old) }
+pub fn save(
+    file: &[u8],
+    out: &mut [u8],
+    satellite: u32,
+    constants: Constants,
+    state: MaybeState,
+) -> Stored
+    ensures { (result ≡ stored file.now satellite constants state (length out.old))
+        × (out.new ≡ output_after result (stored_file file.now satellite constants state) out.old) }
 {
-    let constants = held.constants;
-    let state = held.state;
     let resonant = is_resonant(constants);
     let given = is_given(state);
     if given & !resonant {
-        return Saved::Refused(StoreFault::OrbitNonResonant);
+        return Stored::OrbitNonResonant;
     }
     if !given & resonant {
-        return Saved::Refused(StoreFault::NoState);
+        return Stored::NoState;
     }
     if !is_right(file) {
-        return Saved::Refused(StoreFault::File(FileFault::FileWrong));
+        return Stored::FileWrong;
     }
-    match examine(held) {
-        Body::Refused(fault) => return Saved::Refused(StoreFault::Body(fault)),
-        Body::Of { held: _, steps: _ } => {}
+    match examine(constants, state) {
+        Body::Wrong => return Stored::BodyWrong,
+        Body::NumberNotFinite => return Stored::NumberNotFinite,
+        Body::StateWrong { steps: _ } => return Stored::StateWrong,
+        Body::Of {
+            constants: _,
+            state: _,
+            steps: _,
+        } => {}
     }
-    let b = body_of(Layout::One, held);
-    let size = body_size(Layout::One, held);
-    of_spliced(splice(file, out, satellite, &b[0..size]))
+    let b = body_of(constants, state);
+    let size = body_size(constants, state);
+    of_saved(save_body(file, out, satellite, &b[0..size]))
 }

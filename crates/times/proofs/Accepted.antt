@@ -1,19 +1,25 @@
 -- What an accepted ask has: the state's time is ±720 times its number, in t's direction, and its number is at most t's, which is at most 2 ^ 20. Assumes nothing.
-use Rattle.std.proofs.Common.{◌≡◌, ℕ, zero, suc, ◌+◌, ◌*◌, ◌/◌, ◌%◌, ◌^◌, ◌<◌, ◌≤◌, Bool, true, false, cond, not, ◌&&◌, ◌||◌, T, eqb, ltb, ℤ, sym, refl, ap, ◌∙◌, subst, inl, inr, true≢false, le_trans, le_of_eq, lt_of_lt_of_le, lt_of_le_of_lt, add-zero, lt_irrefl, mul-le-mul_right, mul_assoc, mul_comm, eq-zero-or-pos, mul-pos, div-add-mod', zero-mul, mul-one, mul_left_comm, arith, lit<, eqb→eq, leb→le, nltb→le, T_not, lt-ltb, ne_eqb}
-use mathlib.Core.Bool.{beq}
+use mathlib.Core.Path.{◌≡◌, refl, sym, ap, ◌∙◌, subst}
+use Prim.Native.Nat.{ℕ, zero, suc, ◌+◌, ◌*◌, ◌/◌, ◌%◌, ◌^◌, ◌≤◌, ◌<◌}
+use native.Mathlib.Nat.{le_trans, le_of_eq, lt_of_lt_of_le, lt_of_le_of_lt, lt_irrefl, mul_comm, mul_assoc, mul_left_comm, mul-le-mul_right, mul-pos, zero-mul, mul-one, eq-zero-or-pos, div-add-mod', add-zero}
+use mathlib.Core.Logic.{inl, inr}
+use native.Mathlib.Omega.{arith}
+use mathlib.Core.Bool.{Bool, true, false, not, ◌&&◌, cond, beq, true≢false, ◌||◌}
+use lib.IntN.{ℤ}
+use lib.Dec.{T, ltb, eqb, leb→le, nltb→le, eqb→eq, T_not, lit<}
 use lib.Ieee.{Float, nan, inf, fin, up, down, lt}
-use lib.Ieee.Bits.{is_true}
-use lib.Ieee.Fits.{up_pos, down_pos, eq→eqb, and_i, and_l, and_r}
+use lib.Ieee.Fits.{up_pos, down_pos, eq→eqb, and_l, and_r}
 use lib.Ieee.Nearest.{div_mono}
 use lib.Ieee.Positive.{first_pos}
+use borrow.Author.Tests.{lt-ltb, ne_eqb}
 use Rattle.times.proofs.Placed.{sign_of, At, placed-finite}
 use lib.Ieee.Scale.{finite}
 use Rattle.floats.specs.Value.{at_most, shorter}
 use Rattle.times.specs.declared.time.Fault.{Fault}
-use Rattle.times.specs.declared.time.Fault.TheVariants.{TimeNotFinite, TimeBeyondLimit, StateMisplaced, OtherDirection, Earlier}
+use Rattle.times.specs.declared.time.Fault.TheVariants.{TimeNotFinite, TimeBeyondLimit, StateMisplaced, NotOnward}
 use Rattle.times.specs.declared.time.Checked.{Checked}
 use Rattle.times.specs.declared.time.Checked.TheVariants.{Passed, Refused}
-use Rattle.times.specs.Time.{limit, steps_in, multiple, placed, same_way, not_earlier, onward, order_refusal, back, refusal, is_passed, OnwardDecides}
+use Rattle.times.specs.Time.{limit, number, multiple, placed, same_way, not_earlier, onward, back, refusal}
 
 pub record Accepted (s t : Float) : Type 0 where
   pub near : T (at_most limit t)
@@ -22,7 +28,7 @@ pub record Accepted (s t : Float) : Type 0 where
 
 pub accepted : (s t : Float) → refusal s t ≡ Passed → Accepted s t
 unfolding refusal
-accepted s t p = go (finite t) (at_most limit t) (placed s) (same_way s t) (not_earlier s t) refl refl refl refl p
+accepted s t p = go (finite t) (at_most limit t) (placed s) (onward s t) refl refl refl p
   where
     -- a refusal is not a pass
     not-passed : (f : Fault) {A : Type 0} → Refused f ≡ Passed → A
@@ -32,42 +38,26 @@ accepted s t p = go (finite t) (at_most limit t) (placed s) (same_way s t) (not_
         is_refused Passed = ⊥
         is_refused (Refused f) = Unit {0}
 
-    go : (a b c d e : Bool) → at_most limit t ≡ b → placed s ≡ c → same_way s t ≡ d → not_earlier s t ≡ e
-        → cond a (cond b (cond c (cond d (cond e Passed (Refused (Earlier s))) (Refused OtherDirection)) (Refused StateMisplaced)) (Refused TimeBeyondLimit)) (Refused TimeNotFinite) ≡ Passed
-        → Accepted s t
-    go true true true true true x y z w q =
-        record { near = subst T (sym x) tt; set = subst T (sym y) tt; fore = and_i (same_way s t) (not_earlier s t) (subst T (sym z) tt) (subst T (sym w) tt) }
-    go true true true true false x y z w q = not-passed (Earlier s) q
-    go true true true false e x y z w q = not-passed OtherDirection q
-    go true true false d e x y z w q = not-passed StateMisplaced q
-    go true false c d e x y z w q = not-passed TimeBeyondLimit q
-    go false b c d e x y z w q = not-passed TimeNotFinite q
+    go : (a b c d : Bool) → at_most limit t ≡ b → placed s ≡ c → onward s t ≡ d
+        → cond a (cond b (cond c (cond d Passed (Refused NotOnward)) (Refused StateMisplaced)) (Refused TimeBeyondLimit)) (Refused TimeNotFinite) ≡ Passed → Accepted s t
+    go true true true true x y z q = record { near = subst T (sym x) tt; set = subst T (sym y) tt; fore = subst T (sym z) tt }
+    go true true true false x y z q = not-passed NotOnward q
+    go true true false d x y z q = not-passed StateMisplaced q
+    go true false c d x y z q = not-passed TimeBeyondLimit q
+    go false b c d x y z q = not-passed TimeNotFinite q
 
 pub near-finite : (t : Float) → T (at_most limit t) → T (finite t)
 near-finite nan h = h
 near-finite (inf s) h = h
 near-finite (fin s m e) h = tt
 
--- past 1, 2 and 6 the order of the two times decides
-pub past : (s t : Float) → at_most limit t ≡ true → placed s ≡ true → refusal s t ≡ order_refusal s t
-unfolding refusal
-past s t m p = rw (is_true (finite t) (near-finite t (subst T (sym m) tt)), m, p)
-
-pub onward-decides : OnwardDecides
-onward-decides s t m p = ap is_passed (past s t (is_true (at_most limit t) m) (is_true (placed s) p)) ∙ go (same_way s t) (not_earlier s t)
-  where
-    go : (a b : Bool) → is_passed (cond a (cond b Passed (Refused (Earlier s))) (Refused OtherDirection)) ≡ (a && b)
-    go true true = refl
-    go true false = refl
-    go false b = refl
-
 -- ---- numbers
-pub number-most : (t : Float) → T (at_most limit t) → steps_in t ≤ 2 ^ 20
+pub number-most : (t : Float) → T (at_most limit t) → number t ≤ 2 ^ 20
 number-most (fin s m e) h =
     div_mono (m * up e) (720 * down e) (2 ^ 20) 1 (mul-pos (lit< tt) (down_pos e)) (lit< tt)
     (le_trans (le_of_eq (mul-one (m * up e))) (le_trans (leb→le (m * up e) (limit * down e) h) (le_of_eq (mul_assoc 1048576 720 (down e)))))
 
-pub number-mono : (s t : Float) → T (finite s) → T (finite t) → T (not (shorter t s)) → steps_in s ≤ steps_in t
+pub number-mono : (s t : Float) → T (finite s) → T (finite t) → T (not (shorter t s)) → number s ≤ number t
 number-mono (fin a m e) (fin b n d) p q h =
     div_mono (m * up e) (720 * down e) (n * up d) (720 * down d) (mul-pos (lit< tt) (down_pos e)) (mul-pos (lit< tt) (down_pos d))
     (le_trans (le_of_eq (mul_left_comm (m * up e) 720 (down d)))
@@ -87,7 +77,7 @@ same_sign true false t = absurd t
 same_sign false true t = absurd t
 same_sign false false t = refl
 
-pub at-start : (s t : Float) → T (at_most limit t) → T (placed s) → T (onward s t) → At (back t) (steps_in s) s
+pub at-start : (s t : Float) → T (at_most limit t) → T (placed s) → T (onward s t) → At (back t) (number s) s
 at-start (fin a m e) (fin b n d) near set fore = (sign (m * up e / (720 * down e)) whole, mul-one (m * up e) ∙ whole ∙ sym (mul_assoc (m * up e / (720 * down e)) 720 (down e)) ∙ ap (λ (z : ℕ). z * down e) (mul_comm (m * up e / (720 * down e)) 720))
   where
     whole : m * up e ≡ m * up e / (720 * down e) * (720 * down e)
@@ -122,11 +112,11 @@ at-start (fin a m e) (fin b n d) near set fore = (sign (m * up e / (720 * down e
         above i = omega arith
 
 -- what an accepted ask's numbers are
-pub accepted-at : (s t : Float) → refusal s t ≡ Passed → At (back t) (steps_in s) s
+pub accepted-at : (s t : Float) → refusal s t ≡ Passed → At (back t) (number s) s
 accepted-at s t p = let a = accepted s t p in at-start s t a.near a.set a.fore
 
-pub accepted-le : (s t : Float) → refusal s t ≡ Passed → steps_in s ≤ steps_in t
+pub accepted-le : (s t : Float) → refusal s t ≡ Passed → number s ≤ number t
 accepted-le s t p = let a = accepted s t p in number-mono s t (placed-finite s a.set) (near-finite t a.near) (and_r (same_way s t) (not_earlier s t) a.fore)
 
-pub accepted-most : (s t : Float) → refusal s t ≡ Passed → steps_in t ≤ 2 ^ 20
+pub accepted-most : (s t : Float) → refusal s t ≡ Passed → number t ≤ 2 ^ 20
 accepted-most s t p = number-most t (accepted s t p).near

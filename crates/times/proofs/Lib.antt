@@ -1,4 +1,2 @@
 pub mod Placed
 pub mod Accepted
-pub mod Multiple
-pub mod Compares

@@ -1,19 +1,41 @@
 -- Times that are multiples of 720: their numbers, the next one, and the test whether one more step is due. Assumes nothing.
-use Rattle.std.proofs.Common.{◌≡◌, ℕ, zero, suc, ◌+◌, ◌-◌, ◌*◌, ◌/◌, ◌%◌, ◌^◌, ◌<◌, ◌≤◌, Bool, true, false, cond, not, ◌&&◌, T, ltb, leb, ℤ, pos, sym, refl, ap, ◌∙◌, subst, ap₂, true≢false, zero-le, le_trans, le_of_eq, lt_of_le_of_lt, mul-le-mul_right, mul_assoc, suc-mul, mul_comm, add-mul, mul-pos, one-mul, le-div_iff_mul-le, zero-mul, mul-one, mul-suc, not-le_of_lt, mul-div_cancel, sub-le, sub-eq-zero_of_le, arith, lit<, lit≤, ltb-false, ltb-true, le-ltb, lt-ltb, le-leb}
-use Prim.Native.Nat.{compare}
-use native.Mathlib.Nat.{div-eq_of_lt}
-use mathlib.Core.Bool.{beq, false≢true}
-use lib.Ieee.{Float, nan, inf, fin, binary64, up, down, size, nearest, odd, units, round, sum, add, sub, neg, fits, le, lt, eq, is_nan}
+use mathlib.Core.Path.{◌≡◌, refl, sym, ap, ap₂, ◌∙◌, subst}
+use Prim.Native.Nat.{ℕ, zero, suc, ◌+◌, ◌-◌, ◌*◌, ◌/◌, ◌%◌, ◌^◌, ◌≤◌, ◌<◌, zero-le, compare}
+use native.Mathlib.Nat.{le_trans, le_of_eq, lt_of_le_of_lt, not-le_of_lt, mul_comm, mul_assoc, mul-le-mul_right, mul-pos, zero-mul, add-mul, mul-one, one-mul, le-div_iff_mul-le, div-eq_of_lt, mul-div_cancel, suc-mul, mul-suc, sub-le, sub-eq-zero_of_le}
+use native.Mathlib.Omega.{arith}
+use mathlib.Core.Bool.{Bool, true, false, not, ◌&&◌, cond, beq, true≢false, false≢true}
+use lib.IntN.{ℤ, pos}
+use lib.Dec.{T, leb, ltb, eqb, lit<, lit≤}
+use lib.Ieee.{Float, nan, inf, fin, binary64, up, down, size, nearest, odd, units, round, sum, add, sub, neg, fits, le, lt, eq, rem, is_nan}
 use lib.Ieee.Fits.{down_pos, core, round_is, round-fits}
 use lib.Ieee.Exact.{HasValue, odd_sign}
 use lib.Ieee.Back.{round_whole, whole_unique}
 use lib.Ieee.Scale.{finite, round_same}
-use borrow.Author.Tests.{lt-leb, not-true}
-use Rattle.floats.proofs.Values.{same-le, signed_le, le-values}
-use Rattle.floats.proofs.Exact.{exact, Big, rounded-big, not-le-below, above-not-le, fits-down, fits-num, is-zero, not-lt}
+use borrow.Author.Tests.{ltb-true, ltb-false, lt-ltb, le-ltb, le-leb, lt-leb, ne_eqb, not-true}
+use Rattle.floats.proofs.Values.{same-le, signed_le, le-values, zero_test}
+use Rattle.floats.proofs.Exact.{exact, Big, rounded-big, not-le-below, above-not-le, big-not-zero, fits-down, fits-num, is-zero, not-lt}
 use Rattle.floats.specs.Rounded.{◌⊕◌, dec}
 use Rattle.floats.specs.Value.{at_most, negative, is_zero}
-use Rattle.times.specs.Time.{limit, steps_in, placed, back, due, delta, time_of}
+use Rattle.times.specs.declared.time.Ordering.TheVariants.{Less, Equal, Greater}
+use Rattle.times.specs.Time.{limit, number, multiple, placed, back, ordering, goes_on, due, delta, time_of}
+
+-- ---- a multiple of 720, by the remainder
+pub multiple-is : (x : Float) → T (fits binary64 x) → eq (rem binary64 x (fin false 45 (pos 4))) (fin false 0 (pos 0)) ≡ multiple x
+unfolding rem eq
+multiple-is nan t = refl
+multiple-is (inf s) t = refl
+multiple-is (fin s m e) t = ap (λ (z : ℕ). eq (round binary64 s (z % (720 * down e)) (down e * 1)) (fin false 0 (pos 0))) (mul-one (m * up e)) ∙ go (m * up e % (720 * down e))
+  where
+    go : (R : ℕ) → eq (round binary64 s R (down e * 1)) (fin false 0 (pos 0)) ≡ eqb R 0
+    go zero = zero_test (round binary64 s 0 (down e * 1)) s 0 (down e * 1) (mul-pos (down_pos e) (lit< tt)) (exact s 0 e (lit< tt) (fits-down s m e t))
+    go (suc R) =
+        big-not-zero (round binary64 s (suc R) (down e * 1)) s
+        (rounded-big s (suc R) (down e * 1) (mul-pos (down_pos e) (lit< tt))
+        (le_trans (le_of_eq (mul-one (down e))) (le_trans (fits-down s m e t) (le_trans (le_of_eq (sym (one-mul (2 ^ 1074)))) (mul-le-mul_right (2 ^ 1074) (one-le R))))))
+        ∙ sym (ne_eqb (suc R) 0 (λ (h : suc R ≡ 0). omega arith))
+      where
+        one-le : (R : ℕ) → 1 ≤ suc R
+        one-le R = omega arith
 
 -- ---- -0.0, by a comparison with 0 and the sign bit
 pub minus-zero : (x : Float) (n : Bool) → n ≡ negative x → (eq x (fin false 0 (pos 0)) && n) ≡ (negative x && is_zero x)
@@ -42,7 +64,7 @@ At b i x = HasValue x (sign_of b i) (720 * i) 1
 pub at-num : (b : Bool) (i : ℕ) (s : Bool) (m : ℕ) (e : ℤ) → At b i (fin s m e) → m * up e ≡ i * (720 * down e)
 at-num b i s m e v = sym (mul-one (m * up e)) ∙ v.1 ∙ ap (λ (z : ℕ). z * down e) (mul_comm 720 i) ∙ mul_assoc i 720 (down e)
 
-pub at-number : (b : Bool) (i : ℕ) (x : Float) → At b i x → steps_in x ≡ i
+pub at-number : (b : Bool) (i : ℕ) (x : Float) → At b i x → number x ≡ i
 at-number b i (fin s m e) v = ap (λ (z : ℕ). z / (720 * down e)) (at-num b i s m e v) ∙ mul-div_cancel i (mul-pos (lit< tt) (down_pos e))
 
 -- ---- the test: with P = |t| D
@@ -159,15 +181,63 @@ still i x m e t z v =
     (rounded-big false (m * up e * 1 + 720 * down e) (down e * 1) (one-den e) (unit (m * up e * 1 + 720 * down e) (down e) (fits-down false m e t) (omega (arith, down_pos e))))
     ∙ sym (none-nat (m * up e) (down e) i (lt_of_le_of_lt (le_of_eq (mul-one (m * up e) ∙ z)) (mul-pos (lit< tt) (down_pos e))))
 
--- ---- the loop's test
+-- ---- the loop's test, by the comparison that document 01 names
+no_nan : (x : Float) (s : Bool) (a c : ℕ) → HasValue x s a c → T (not (is_nan x))
+unfolding is_nan
+no_nan (fin t m e) s a c v = tt
+
+round-no-nan : (s : Bool) (num den : ℕ) → T (not (is_nan (round binary64 s num den)))
+unfolding is_nan units
+round-no-nan s num den = subst (λ (x : Float). T (not (is_nan x))) (sym (round_is binary64 s num den)) (go (size (num * 2 ^ 1074 / den) - 53))
+  where
+    at : (q k : ℕ) (b : Bool) → T (not (is_nan (cond b (odd 54 s q k 1074) (inf s))))
+    at q k true = no_nan (odd 54 s q k 1074) s (q * 2 ^ k) (2 ^ 1074) (odd_sign 54 s q k 1074)
+    at q k false = tt
+
+    go : (k : ℕ) → T (not (is_nan (core binary64 s (num * 2 ^ 1074) den k)))
+    go k = at (nearest (num * 2 ^ 1074 / (den * 2 ^ k)) (compare (num * 2 ^ 1074 % (den * 2 ^ k) * 2) (den * 2 ^ k))) k
+        (ltb (nearest (num * 2 ^ 1074 / (den * 2 ^ k)) (compare (num * 2 ^ 1074 % (den * 2 ^ k) * 2) (den * 2 ^ k)) * 2 ^ k) (2 ^ 2098))
+
+sum-no-nan : (s t : Bool) (a b c : ℕ) → T (not (is_nan (sum binary64 s a t b c)))
+unfolding sum
+sum-no-nan s t a b c = go (beq s t) (ltb a b)
+  where
+    go : (x y : Bool) → T (not (is_nan (cond x (round binary64 s (a + b) c) (cond y (round binary64 t (b - a) c) (round binary64 (s && ltb b a) (a - b) c)))))
+    go true y = round-no-nan s (a + b) c
+    go false true = round-no-nan t (b - a) c
+    go false false = round-no-nan (s && ltb b a) (a - b) c
+
+-- forward: s <= x
+on-ahead : (x s : Float) → T (not (is_nan x)) → T (not (is_nan s)) → goes_on false (ordering x s) ≡ le s x
+on-ahead x s p q = go (lt x s) (lt s x) ∙ not-lt x s p q
+  where
+    go : (a b : Bool) → goes_on false (cond a Less (cond b Greater Equal)) ≡ not a
+    go true b = refl
+    go false true = refl
+    go false false = refl
+
+-- back: x <= s
+on-behind : (x s : Float) → T (not (is_nan x)) → T (not (is_nan s)) → goes_on true (ordering x s) ≡ le x s
+on-behind x s p q = go (lt x s) (lt s x) refl refl
+  where
+    go : (a b : Bool) → lt x s ≡ a → lt s x ≡ b → goes_on true (cond a Less (cond b Greater Equal)) ≡ le x s
+    go true b e f = unfold le in rw e
+    go false true e f = ap not (sym f) ∙ not-lt s x q p
+    go false false e f = ap not (sym f) ∙ not-lt s x q p
 
 -- THE TEST IS EXACT: with the state at ±720 i and t within the limit, one more step is due exactly if i is below the whole part of |t| / 720
-pub due-is : (b : Bool) (i : ℕ) (x t : Float) → T (fits binary64 t) → T (at_most limit t) → back t ≡ b → At b i x → due b x t ≡ ltb i (steps_in t)
-unfolding due back dec add sub neg lt round
+pub due-is : (b : Bool) (i : ℕ) (x t : Float) → T (fits binary64 t) → T (at_most limit t) → back t ≡ b → At b i x → due b x t ≡ ltb i (number t)
+unfolding due delta back dec add sub neg lt round
 due-is false i x (fin true m e) f h p v = absurd (true≢false p)
-due-is false i x (fin false m e) f h p v = ahead i x m e f h v
-due-is true i x (fin true m e) f h p v = behind i x m e f h v
-due-is true i x (fin false m e) f h p v = still i x m e f (flat p) v
+due-is false i x (fin false m e) f h p v =
+    on-ahead (sum binary64 false (m * up e * 1) true (720 * down e) (down e * 1)) x (sum-no-nan false true (m * up e * 1) (720 * down e) (down e * 1)) (no_nan x (sign_of false i) (720 * i) 1 v)
+    ∙ ahead i x m e f h v
+due-is true i x (fin true m e) f h p v =
+    on-behind (sum binary64 true (m * up e * 1) false (720 * down e) (down e * 1)) x (sum-no-nan true false (m * up e * 1) (720 * down e) (down e * 1)) (no_nan x (sign_of true i) (720 * i) 1 v)
+    ∙ behind i x m e f h v
+due-is true i x (fin false m e) f h p v =
+    on-behind (sum binary64 false (m * up e * 1) false (720 * down e) (down e * 1)) x (sum-no-nan false false (m * up e * 1) (720 * down e) (down e * 1)) (no_nan x (sign_of true i) (720 * i) 1 v)
+    ∙ still i x m e f (flat p) v
   where
     flat : not (ltb (0 * down e) (m * up e * 1)) ≡ true → m * up e ≡ 0
     flat q = empty (m * up e) (m * up e * 1) (0 * down e) (sym (mul-one (m * up e))) (zero-mul (down e)) (ltb-false (0 * down e) (m * up e * 1) (not-true (ltb (0 * down e) (m * up e * 1)) q))

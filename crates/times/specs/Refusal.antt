@@ -1,7 +1,7 @@
 -- Document 01's number of each refusal. Definitions only. Assumes nothing.
 use Rattle.std.specs.Prelude.{ℕ}
 use Rattle.times.specs.declared.time.Fault.{Fault}
-use Rattle.times.specs.declared.time.Fault.TheVariants.{TimeNotFinite, TimeBeyondLimit, NumberNotFinite, OrbitNonResonant, NoState, StateMisplaced, OtherDirection, Earlier, RatesRefused}
+use Rattle.times.specs.declared.time.Fault.TheVariants.{TimeNotFinite, TimeBeyondLimit, NumberNotFinite, OrbitNonResonant, NoState, StateMisplaced, NotOnward, RatesRefused}
 use Rattle.times.specs.declared.time.Checked.{Checked}
 use Rattle.times.specs.declared.time.Checked.TheVariants.{Passed, Refused as refusedCheck}
 
@@ -12,8 +12,7 @@ number NumberNotFinite = 3
 number OrbitNonResonant = 4
 number NoState = 5
 number StateMisplaced = 6
-number OtherDirection = 7
-number (Earlier s) = 21
+number NotOnward = 7
 number RatesRefused = 8
 
 -- of the check of two times: 0 where it passes

@@ -1,13 +1,12 @@
-// Times in minutes since epoch: where a state may stand, and what may be asked of it. The tests of
-// `integrate` in deep_space.rs.
+// Times in minutes since epoch: where a state may stand, what may be asked of it, and whether one
+// step more is due. The tests and the loop's end of `integrate` in deep_space.rs.
 ghost use Rattle.std.specs.Prelude.{◌≡◌, T};
 ghost use Rattle.std.specs.Float.Ieee.Scale.{finite};
 ghost use Rattle.floats.specs.Value.{at_most};
-ghost use Rattle.times.specs.Refusal.{number as fault_number, of_check};
-ghost use Rattle.times.specs.Time.{limit, multiple, placed, same_way, not_earlier, refusal, delta};
+ghost use Rattle.times.specs.Refusal.{number as fault_number};
+ghost use Rattle.times.specs.Time.{limit, placed, same_way, not_earlier, refusal, ordering, delta, due};
 
 use floats::finite::{is_finite, is_negative, magnitude};
-use std::num::{nearest_u64_to_f64, truncating_f64_to_u64};
 
 // Why a call of the integrator is refused.
 #[derive(Drop)]
@@ -18,8 +17,7 @@ pub enum Fault {
     OrbitNonResonant, // refusal 4
     NoState, // refusal 5
     StateMisplaced, // refusal 6
-    OtherDirection, // refusal 7
-    Earlier(f64), // refusal 21, with the state's time
+    NotOnward, // refusal 7
     RatesRefused, // refusal 8
 }
 
@@ -35,30 +33,24 @@ impl Fault {
             Fault::OrbitNonResonant => 4,
             Fault::NoState => 5,
             Fault::StateMisplaced => 6,
-            Fault::OtherDirection => 7,
-            Fault::Earlier(_) => 21,
+            Fault::NotOnward => 7,
             Fault::RatesRefused => 8,
         }
     }
 }
 
-// Whether the checks pass.
 #[derive(Drop)]
 pub enum Checked {
     Passed,
     Refused(Fault),
 }
 
-impl Checked {
-    // The refusal's number, 0 where there is none.
-    pub fn number(self) -> u32
-        ensures { result ≡ of_check self }
-    {
-        match self {
-            Checked::Passed => 0,
-            Checked::Refused(fault) => fault.number(),
-        }
-    }
+// The order of two floats. A pair that has none, as with a NaN, counts as equal.
+#[derive(Drop)]
+pub enum Ordering {
+    Less,
+    Equal,
+    Greater,
 }
 
 // Whether x is at most 720·2^20 in size.
@@ -68,25 +60,11 @@ pub fn is_within(x: f64) -> bool
     (x <= 754974720.0) & (x >= -754974720.0)
 }
 
-// Whether x, which is within the limit, is a multiple of 720: it has no fraction, and its whole part is
-// one. `%` of floats is the C library's, and slow.
-fn is_multiple(x: f64) -> bool
-    requires { T (at_most limit x) }
-    ensures { result ≡ multiple x }
-{
-    let m = magnitude(x);
-    let n = truncating_f64_to_u64(m);
-    (m <= nearest_u64_to_f64(n)) & (n % 720 == 0)
-}
-
 // Whether x is a state's time: a multiple of 720 within the limit, and not -0.0.
 pub fn is_placed(x: f64) -> bool
     ensures { result ≡ placed x }
 {
-    if !is_within(x) {
-        return false;
-    }
-    is_multiple(x) & !((x == 0.0) & is_negative(x))
+    (x % 720.0 == 0.0) & is_within(x) & !((x == 0.0) & is_negative(x))
 }
 
 // Whether the state's time s is 0, or has t's sign bit.
@@ -105,7 +83,7 @@ fn is_not_earlier(s: f64, t: f64) -> bool
     magnitude(t) >= magnitude(s)
 }
 
-// The refusal among 1, 2, 6, 7 and 21 of an ask at t, where the state's time is s.
+// The refusal among 1, 2, 6 and 7 of an ask at t, where the state's time is s.
 pub fn check_times(s: f64, t: f64) -> Checked
     ensures { result ≡ refusal s t }
 {
@@ -118,13 +96,23 @@ pub fn check_times(s: f64, t: f64) -> Checked
     if !is_placed(s) {
         return Checked::Refused(Fault::StateMisplaced);
     }
-    if !is_same_way(s, t) {
-        return Checked::Refused(Fault::OtherDirection);
-    }
-    if !is_not_earlier(s, t) {
-        return Checked::Refused(Fault::Earlier(s));
+    if !(is_same_way(s, t) & is_not_earlier(s, t)) {
+        return Checked::Refused(Fault::NotOnward);
     }
     Checked::Passed
+}
+
+// How x compares with y: the Rust's `partial_cmp(..).unwrap_or(Equal)`.
+fn compare(x: f64, y: f64) -> Ordering
+    ensures { result ≡ ordering x y }
+{
+    if x < y {
+        return Ordering::Less;
+    }
+    if x > y {
+        return Ordering::Greater;
+    }
+    Ordering::Equal
 }
 
 // Δt: 720 min, or -720 min going back.
@@ -132,4 +120,17 @@ pub fn delta_t(back: bool) -> f64
     ensures { result ≡ delta back }
 {
     if back { -720.0 } else { 720.0 }
+}
+
+// Whether an ask at t steps on from the time s: not where t - Δt is less than s, or greater going
+// back.
+pub fn is_due(back: bool, s: f64, t: f64) -> bool
+    ensures { result ≡ due back s t }
+{
+    let ordering = compare(t - delta_t(back), s);
+    match ordering {
+        Ordering::Less => back,
+        Ordering::Equal => true,
+        Ordering::Greater => !back,
+    }
 }

@@ -1,5 +1,6 @@
 // Replays data/floats.txt on the crate `floats`: a call to a line, with the refusal number and the
 // answer that it must give. Writes how many lines passed, and the first that did not.
+#![tactic(auto)]
 ghost use Rattle.std.specs.Prelude.{◌≤◌, ◌≡◌, length};
 
 use bytes::scan::find;
@@ -8,9 +9,9 @@ use floats::atan::atan2;
 use floats::finite::{bits_of, of_bits};
 use floats::floor::floor;
 use floats::remainder::rem_euclid;
+use floats::root::{Root, cbrt, sqrt, three_halves, two_thirds};
 use floats::trig::{Trig, cos, sin};
 use libc::STDOUT_FILENO;
-use roots::root::{Root, cbrt, sqrt, three_halves, two_thirds};
 
 // ---- reading a line
 

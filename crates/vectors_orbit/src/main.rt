@@ -1,5 +1,6 @@
 // Replays data/orbit.txt on the crates of orbits: a call to a line, with the refusal number and what it
 // must answer. Writes how many lines passed, and the first that did not.
+#![tactic(auto)]
 ghost use Rattle.std.specs.Prelude.{◌≤◌, ◌<◌, ◌≡◌, length};
 
 use bytes::scan::find;
@@ -7,13 +8,13 @@ use check::same;
 use constants::build::{Built, build};
 use constants::geometry::{Bodies, Geometry, ThirdBody, geometry_of};
 use constants::given::{Dots, Given};
-use constants_list::{constants_of, kind_of, numbers_of};
 use elements::elements::{Elements, Outcome, Periodic, Question};
 use floats::finite::{bits_of, of_bits};
 use libc::STDOUT_FILENO;
 use orbit::class::{Class, class_of};
 use orbit::model::{Geopotential, Sidereal, SiderealTime, sidereal_time};
 use orbit::propagator::{Constants, Orbit};
+use record::{constants_of, kind_of, numbers_of};
 use resonance::ask::Answer;
 use resonance::state::{MaybeState, ResonanceState, Stepped, initial_state};
 use times::time::Fault;
@@ -287,8 +288,7 @@ fn fault_digits(f: Fault) -> u64 {
         Fault::OrbitNonResonant => 0x04,
         Fault::NoState => 0x05,
         Fault::StateMisplaced => 0x06,
-        Fault::OtherDirection => 0x07,
-        Fault::Earlier(_) => 0x21,
+        Fault::NotOnward => 0x07,
         Fault::RatesRefused => 0x08,
     }
 }
@@ -438,26 +438,15 @@ fn is_outcome_told(o: Outcome, w: &[u64; 80], count: usize) -> bool {
     }
 }
 
-// 21 carries the state's time.
-fn is_fault_told(f: Fault, w: &[u64; 80], count: usize) -> bool {
-    if w[53] != fault_digits(f) {
-        return false;
-    }
-    if let Fault::Earlier(time) = f {
-        return (count == 60) & (w[59] == bits_of(time));
-    }
-    count == 59
-}
-
 fn is_answer_told(a: Answer, w: &[u64; 80], count: usize) -> bool {
     match a {
-        Answer::Refused(f) => is_fault_told(f, w, count),
+        Answer::Refused(f) => (count == 59) & (w[53] == fault_digits(f)),
         Answer::Reached(o) => is_outcome_told(o, w, count),
     }
 }
 
 // ask: kind, flag, 34 numbers, 1 with a state, the state, 13 numbers; refusal, steps, 1 with a state,
-// the state, and the elements' twelve numbers, the two that 10 and 11 carry, or the one of 21
+// the state, and the elements' twelve numbers or the two that 10 and 11 carry
 fn ask_passes(w: &[u64; 80], count: usize) -> bool {
     let c = constants_at(w);
     let q = question_at(w);

@@ -1,17 +1,17 @@
 // Replays data/store.txt on the store: a restore or a save to a line, with the refusal number and what it
 // must answer. Writes how many cases passed, and the first that did not.
+#![tactic(auto)]
 ghost use Rattle.std.specs.Prelude.{◌≤◌, ◌≡◌, length};
 
-use body::held::Held;
 use bytes::scan::find;
 use check::same;
-use constants_list::{constants_of, kind_of, numbers_of};
 use floats::finite::{bits_of, of_bits};
 use libc::STDOUT_FILENO;
 use orbit::propagator::Constants;
+use record::{constants_of, kind_of, numbers_of};
 use resonance::state::{MaybeState, ResonanceState};
 use store::restore::{Restored, restore};
-use store::save::save;
+use store::save::{Stored, save};
 
 // ---- reading a line
 
@@ -213,12 +213,6 @@ fn state_at(r: &[u64; 41]) -> MaybeState {
     MaybeState::None
 }
 
-fn held_at(r: &[u64; 41]) -> Held {
-    let constants = constants_at(r);
-    let state = state_at(r);
-    Held { constants, state }
-}
-
 // Whether these are the numbers of the record, by their bits.
 fn are_told(xs: &[f64; 34], r: &[u64; 41]) -> bool {
     let mut i = 0;
@@ -243,9 +237,7 @@ fn is_state_told(s: MaybeState, r: &[u64; 41]) -> bool {
     }
 }
 
-fn is_record_told(held: Held, r: &[u64; 41]) -> bool {
-    let c = held.constants;
-    let s = held.state;
+fn is_record_told(c: Constants, s: MaybeState, r: &[u64; 41]) -> bool {
     let xs = numbers_of(c);
     let are = are_told(&xs, r);
     let is = is_state_told(s, r);
@@ -254,12 +246,6 @@ fn is_record_told(held: Held, r: &[u64; 41]) -> bool {
 }
 
 // ---- one case
-
-// The two digits of a number below 100, as the vectors write a refusal.
-fn digits_of(number: u32) -> u64 {
-    let n = (number % 100) as u64;
-    n / 10 * 16 + n % 10
-}
 
 // Whether a restore from the first `size` bytes answers what the words from `at` on say: satellite;
 // refusal, steps.
@@ -286,13 +272,42 @@ fn restore_passes(
     let is_short = count == at + 3;
     let whole = &file[..];
     match restore(&whole[0..size], w[at] as u32) {
-        Restored::Refused(fault) => {
-            is_short & (number == digits_of(fault.number())) & (made == fault.steps() as u64)
-        }
-        Restored::Of { held, steps } => {
-            let is = is_record_told(held, &told);
+        Restored::FileWrong => is_short & (number == 0x14) & (made == 0),
+        Restored::SatelliteMissing => is_short & (number == 0x15) & (made == 0),
+        Restored::BodyWrong => is_short & (number == 0x16) & (made == 0),
+        Restored::NumberNotFinite => is_short & (number == 0x17) & (made == 0),
+        Restored::StateWrong { steps } => is_short & (number == 0x18) & (made == steps as u64),
+        Restored::Of {
+            constants,
+            state,
+            steps,
+        } => {
+            let is = is_record_told(constants, state, &told);
             (number == 0) & (made == steps as u64) & is
         }
+    }
+}
+
+// The two digits of a save's refusal, and 00 where it wrote.
+fn save_digits(s: Stored) -> u64 {
+    match s {
+        Stored::OrbitNonResonant => 0x04,
+        Stored::NoState => 0x05,
+        Stored::FileWrong => 0x14,
+        Stored::BodyWrong => 0x16,
+        Stored::NumberNotFinite => 0x17,
+        Stored::StateWrong => 0x18,
+        Stored::StoreFull => 0x20,
+        Stored::OutputShort => 0x19,
+        Stored::Written(_) => 0x00,
+    }
+}
+
+// How many bytes a save wrote.
+fn written(s: Stored) -> usize {
+    match s {
+        Stored::Written(n) => n,
+        _ => 0,
     }
 }
 
@@ -339,12 +354,13 @@ fn save_passes(
         &whole[0..size],
         &mut out[0..room],
         w[0] as u32,
-        held_at(&told),
+        constants_at(&told),
+        state_at(&told),
     );
-    let number = digits_of(answer.number());
+    let number = save_digits(answer);
     let told_size = if number == 0 { new_size } else { 0 };
     let is = is_output(&out, new, told_size);
-    (number == w[2]) & (answer.size_or(0) == told_size) & is
+    (number == w[2]) & (written(answer) == told_size) & is
 }
 
 // byte: offset, byte; at the end of the file it is one more

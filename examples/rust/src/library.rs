@@ -3,8 +3,6 @@
 
 mod c {
     extern "C" {
-        pub fn orbt_words(number: u32, out: *mut u8, out_size: usize) -> usize;
-        pub fn orbt_empty(out: *mut u8, out_size: usize, size: *mut usize) -> u32;
         pub fn orbt_build(
             which: u32,
             flag: u32,
@@ -74,21 +72,6 @@ fn answer<T>(number: u32, value: T) -> Result<T, Refusal> {
         return Ok(value);
     }
     Err(number)
-}
-
-/// The words of a refusal.
-pub fn words(number: Refusal) -> String {
-    let mut room = [0; 128];
-    let length = unsafe { c::orbt_words(number, room.as_mut_ptr(), room.len()) };
-    String::from_utf8_lossy(&room[..length]).into_owned()
-}
-
-/// The store without records.
-pub fn empty() -> Vec<u8> {
-    let (mut room, mut size) = (vec![0; 8], 0);
-    unsafe { c::orbt_empty(room.as_mut_ptr(), room.len(), &mut size) };
-    room.truncate(size);
-    room
 }
 
 /// An orbit by the IAU time, with its fresh state.

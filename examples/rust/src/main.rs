@@ -7,8 +7,6 @@
 mod library;
 
 use library::{Asked, Orbit, Refusal};
-use std::fs::File;
-use std::io::{self, Write};
 use std::path::{Path, PathBuf};
 use std::process::{exit, ExitCode};
 use std::{env, fs};
@@ -50,6 +48,8 @@ const GIVEN: [f64; 31] = [
     5.973327467867302e-8,
 ];
 
+const EMPTY: [u8; 8] = [0x4F, 0x52, 0x42, 0x54, 1, 0, 0, 0];
+
 const KINDS: [&str; 3] = ["non-resonant", "one-day", "half-day"];
 
 const ELEMENTS: [&str; 12] = [
@@ -67,13 +67,38 @@ const ELEMENTS: [&str; 12] = [
     "p36",
 ];
 
+/// The header's words.
+const WORDS: [&str; 21] = [
+    "",
+    "the time is not finite",
+    "the time is beyond 754,974,720 minutes",
+    "another number given is not finite",
+    "a state is given, and the orbit is non-resonant",
+    "no state is given, and the orbit is resonant",
+    "the state's time is -0.0, no multiple of 720, or beyond the limit",
+    "the state's time has the other direction, or is past the time asked: reset first",
+    "the resonance cannot be followed there: an angle or a number of a state on the way is out of range",
+    "an angle is beyond 1,048,576, or is a NaN",
+    "the eccentricity is out of range: it and the time are carried",
+    "the perturbed eccentricity is outside 0 to 1: it and the time are carried",
+    "a root or power is taken of no such number, or an element is not finite",
+    "a number built is not finite",
+    "the header or the contents of the file are wrong",
+    "the satellite is not in the file",
+    "a kind, flag or like number of the call or of a record is wrong, or the kind is not the orbit's class",
+    "a number of the record is not finite",
+    "the record's state is not what its steps make of the fresh state",
+    "the output is shorter than the new file",
+    "a 129th satellite, or a new file of 2^32 bytes or more",
+];
+
 fn fail(what: &str, path: &Path) -> ! {
     eprintln!("host: {what} {}", path.display());
     exit(2)
 }
 
 fn refused(what: &str, number: Refusal) {
-    println!("{what}: refused {number}, {}", library::words(number));
+    println!("{what}: refused {number}, {}", WORDS[number as usize]);
 }
 
 // ends the host with the refusal's words
@@ -88,22 +113,10 @@ fn number(name: &str, x: f64) {
     println!("  {name:20} {x:22.15}  {:016X}", x.to_bits());
 }
 
-// all the bytes, on disk
-fn write(path: &Path, bytes: &[u8]) -> io::Result<()> {
-    let mut to = File::create(path)?;
-    to.write_all(bytes)?;
-    to.sync_all()
-}
-
-// writes beside the file, and renames once that is on disk, so that the old one stands until the new one is
-// whole; the new name is on disk once the folder is
+// writes beside the file and renames, so that the old one stands until the new one is whole
 fn keep(path: &Path, bytes: &[u8]) {
     let beside = path.with_extension("orbt.part");
-    let folder = path.parent().filter(|folder| !folder.as_os_str().is_empty());
-    let kept = write(&beside, bytes)
-        .and_then(|()| fs::rename(&beside, path))
-        .and_then(|()| File::open(folder.unwrap_or(Path::new(".")))?.sync_all());
-    if kept.is_err() {
+    if fs::write(&beside, bytes).is_err() || fs::rename(&beside, path).is_err() {
         fail("cannot write", path);
     }
 }
@@ -179,7 +192,7 @@ fn main() -> ExitCode {
         Some(path) => PathBuf::from(path),
         None => {
             let path = folder.join("store.orbt");
-            save(&path, &library::empty(), MADE, &or_end("build", library::build(&GIVEN)));
+            save(&path, &EMPTY, MADE, &or_end("build", library::build(&GIVEN)));
             path
         }
     };

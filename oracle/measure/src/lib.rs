@@ -12,9 +12,9 @@ pub mod tally;
 
 use std::f64::consts::TAU;
 
-/// The largest magnitude of an angle that is answered, and the one that was answered first.
-pub const ANGLE_LIMIT: f64 = 16777216.0;
-pub const FORMER_ANGLE_LIMIT: f64 = 1048576.0;
+/// The largest magnitude of an angle that is answered, and the one that is asked for next.
+pub const ANGLE_LIMIT: f64 = 1048576.0;
+pub const NEXT_ANGLE_LIMIT: f64 = 16777216.0;
 
 /// The float that is `steps` further in the order of the floats of x's sign.
 pub fn beside(x: f64, steps: i64) -> f64 {

@@ -141,9 +141,6 @@ pub fn whole(question: [f64; 3], effects: &[f64; 10]) -> [f64; 13] {
 pub const MOTIONS: [f64; 4] = [0.0034906585, 0.0052359877, 8.26e-3, 9.24e-3];
 pub const ECCENTRICITIES: [f64; 4] = [0.5, 0.65, 0.7, 0.715];
 
-/// Where a half-day build follows the published routine and not the Rust.
-pub const CORRECTED: f64 = 0.715;
-
 impl Random {
     pub fn from_to(&mut self, low: f64, high: f64) -> f64 {
         low + self.unit() * (high - low)

@@ -1,4 +1,4 @@
-//! The builds of sgp4 behind one set of calls. Constants and states travel as the library has them.
+//! The two builds of sgp4 behind one set of calls. Constants and states travel as the library has them.
 use crate::orbits::Orbit;
 use orbt::orbits::State;
 
@@ -103,4 +103,3 @@ macro_rules! rust {
 
 rust!(Ours, sgp4_ours);
 rust!(Own, sgp4_own);
-rust!(Corrected, sgp4_corrected);

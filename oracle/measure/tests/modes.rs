@@ -22,10 +22,10 @@ macro_rules! runs {
             #[rustfmt::skip]
             let given = [
                 ae, ke, j2, j3, j4,
-                                        i, node, e, perigee, anomaly, n,
-                                        // epoch, p1, a0, c1, c4, k0, k1, k14, p14, p15
-                                        epoch, p1, a0, 1e-12, 1e-12, 1e-14, 1.5e-12, 1e-6, -1e-6, n,
-                                    ];
+                    i, node, e, perigee, anomaly, n,
+                    // epoch, p1, a0, c1, c4, k0, k1, k14, p14, p15
+                    epoch, p1, a0, 1e-12, 1e-12, 1e-14, 1.5e-12, 1e-6, -1e-6, n,
+                ];
             let c = $sgp4::build(run % 2 == 0, &given, p2.sqrt(), p2);
             let (numbers, count) = $sgp4::numbers(&c);
             assert_eq!(count, [26, 34, 21][run % 3]);

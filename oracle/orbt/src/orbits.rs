@@ -17,7 +17,7 @@ pub struct Constants {
 pub struct Asked {
     /// the refusal, or 0
     pub number: u32,
-    /// twelve numbers, the two that 10 and 11 carry, or the one of 21
+    /// twelve numbers, or the two that 10 and 11 carry
     pub elements: [f64; 12],
     pub state: State,
     pub steps: u32,
@@ -95,7 +95,6 @@ pub fn ask(c: &Constants, state: State, question: &[f64; 13]) -> Asked {
     let written = match number {
         0 => 12,
         10 | 11 => 2,
-        21 => 1,
         _ => 0,
     };
     assert!(is_left(&elements[written..]), "a refused ask wrote elements");

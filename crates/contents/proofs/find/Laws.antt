@@ -11,8 +11,7 @@ use Rattle.contents.specs.Format.{entries}
 use Rattle.contents.specs.Records.{Rec, record_of}
 use Rattle.contents.specs.Find.{sought}
 use Rattle.contents.specs.declared.format.Entry.{Entry}
-use Rattle.contents.specs.declared.fault.FileFault.TheVariants.{SatelliteMissing}
-use Rattle.contents.specs.declared.find.Found.TheVariants.{Refused, Body}
+use Rattle.contents.specs.declared.find.Found.TheVariants.{SatelliteMissing, Body}
 
 module _ (x : ℕ) (e : Entry) (es : List Entry) where
   pub sought-here : e.satellite ≡ x → sought x (e ∷ es) ≡ Body e.offset e.size
@@ -23,7 +22,7 @@ module _ (x : ℕ) (e : Entry) (es : List Entry) where
   unfolding sought
   sought-past h = simp (ne_eqb _ _ h)
 
-pub sought-end : (x left : ℕ) (s : List ℕ) → left ≤ 0 → sought x (entries left s) ≡ Refused SatelliteMissing
+pub sought-end : (x left : ℕ) (s : List ℕ) → left ≤ 0 → sought x (entries left s) ≡ SatelliteMissing
 unfolding entries sought
 sought-end x zero s h = refl
 sought-end x (suc k) s h = absurd (omega arith)

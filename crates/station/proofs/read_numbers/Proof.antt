@@ -1,58 +1,52 @@
 -- `station::read_numbers` is safe and ends: each turn passes an argument. Assumes nothing.
-use Rattle.std.proofs.Common.{◌-◌, ◌≤◌, rules}
+use Rattle.std.proofs.Common.{◌-◌, ◌≤◌, arith}
 use Rattle.station.proofs.read_numbers.Statement.{statement}
 use Rattle.station.proofs.read_numbers.Tie as tie
 
 abbrev invariant-loop : tie.invariant-loop
-invariant-loop x₀ first count i₀ x i = i ≤ 13
+invariant-loop x₀ count i₀ x i = i ≤ 13
 
 abbrev decreases-loop : tie.decreases-loop
-decreases-loop x₀ first count i₀ x i = 13 - i
+decreases-loop x₀ count i₀ x i = 13 - i
 
 loop-holds : tie.Need-loop-init invariant-loop decreases-loop
-loop-holds c = search rules
+loop-holds c = omega arith
 
 returns : tie.Need-returns invariant-loop decreases-loop
-returns c = search rules
+returns c = tt
 
-wrapping-add-usize-requires : tie.Need-wrapping-add-usize-requires invariant-loop decreases-loop
-wrapping-add-usize-requires c κs = search rules
+add-number-at : tie.Need-overflow-add-number-at invariant-loop decreases-loop
+add-number-at c = omega arith
 
 number-at-requires : tie.Need-number-at-requires invariant-loop decreases-loop
-number-at-requires c κs = search rules
+number-at-requires c κs = tt
 
 enum-known-value : tie.Need-enum-known-value invariant-loop decreases-loop
-enum-known-value c = search rules
+enum-known-value c = omega arith
 
 mul-x : tie.Need-overflow-mul-x invariant-loop decreases-loop
-mul-x c = search rules
+mul-x c = omega arith
 
 element-write-x : tie.Need-element-write-x invariant-loop decreases-loop
-element-write-x c = search rules
+element-write-x c = omega arith
 
 enum_told : tie.Need-enum-told invariant-loop decreases-loop
-enum_told c = search rules
+enum_told c = omega arith
 
 returns-2 : tie.Need-returns-2 invariant-loop decreases-loop
-returns-2 c = search rules
-
-enum-told-2 : tie.Need-enum-told-2 invariant-loop decreases-loop
-enum-told-2 c = search rules
-
-returns-3 : tie.Need-returns-3 invariant-loop decreases-loop
-returns-3 c = search rules
+returns-2 c = tt
 
 add-i : tie.Need-overflow-add-i invariant-loop decreases-loop
-add-i c = search rules
+add-i c = omega arith
 
 loop-less : tie.Need-loop-smaller invariant-loop decreases-loop
-loop-less c = search rules
+loop-less c = omega arith
 
 loop-again : tie.Need-loop-preserved invariant-loop decreases-loop
-loop-again c = search rules
+loop-again c = omega arith
 
-returns-4 : tie.Need-returns-4 invariant-loop decreases-loop
-returns-4 c = search rules
+returns-3 : tie.Need-returns-3 invariant-loop decreases-loop
+returns-3 c = tt
 
 pub read-numbers-spec : {M : Type 1} → statement M
 read-numbers-spec =
@@ -62,16 +56,14 @@ read-numbers-spec =
     decreases-loop
     loop-holds
     returns
-    wrapping-add-usize-requires
+    add-number-at
     number-at-requires
     enum-known-value
     mul-x
     element-write-x
     enum_told
     returns-2
-    enum-told-2
-    returns-3
     add-i
     loop-less
     loop-again
-    returns-4)
+    returns-3)

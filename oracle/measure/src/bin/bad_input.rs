@@ -227,8 +227,8 @@ fn main() -> ExitCode {
         (720.0, -720.0, (Panics, 7)),
         (-720.0, 720.0, (Panics, 7)),
         (720.0, -0.0, (Panics, 7)),
-        (1440.0, 720.0, (Panics, 21)),
-        (-1440.0, -720.0, (Panics, 21)),
+        (1440.0, 720.0, (Panics, 7)),
+        (-1440.0, -720.0, (Panics, 7)),
         (-0.0, 720.0, (Finite, 6)),
         (100.0, 720.0, (Finite, 6)),
         (LAST + 720.0, LAST, (Panics, 6)),
@@ -277,13 +277,13 @@ fn main() -> ExitCode {
     }
 
     // angles beyond the limit
-    let (rust, ours) = non.with(5, 16_777_217.0).ask(None, non.question(1000.0), &non.effects);
-    table.row("ask, non-resonant: inclination 16,777,217", (Finite, 9), rust, ours);
+    let (rust, ours) = non.with(5, 1_048_577.0).ask(None, non.question(1000.0), &non.effects);
+    table.row("ask, non-resonant: inclination 1,048,577", (Finite, 9), rust, ours);
     let [t, _, p23] = low.question(1000.0);
-    let (rust, ours) = low.ask(low.fresh(), [t, 16_777_217.0, p23], &low.effects);
-    table.row("ask, I = 0.1: p22 = 16,777,217", (Finite, 9), rust, ours);
-    let (rust, ours) = day.ask(day.fresh(), [t, 16_777_217.0, p23], &day.effects);
-    table.row("ask, I = 0.5: p22 = 16,777,217 (no sine is taken of it)", (Finite, 0), rust, ours);
+    let (rust, ours) = low.ask(low.fresh(), [t, 1_048_577.0, p23], &low.effects);
+    table.row("ask, I = 0.1: p22 = 1,048,577", (Finite, 9), rust, ours);
+    let (rust, ours) = day.ask(day.fresh(), [t, 1_048_577.0, p23], &day.effects);
+    table.row("ask, I = 0.5: p22 = 1,048,577 (no sine is taken of it)", (Finite, 0), rust, ours);
 
     // powers
     for x in [0.0, -1.0] {
@@ -316,9 +316,9 @@ fn main() -> ExitCode {
     }
     for (name, side) in [("one-day", &day), ("half-day", &half)] {
         let mut x = side.x;
-        x.elements[0] = 16_777_217.0;
+        x.elements[0] = 1_048_577.0;
         let (rust, ours) = side.build(&x);
-        table.row(&format!("build, {name}: inclination 16,777,217"), (Finite, 9), rust, ours);
+        table.row(&format!("build, {name}: inclination 1,048,577"), (Finite, 9), rust, ours);
     }
 
     // sidereal times and the geometry
@@ -339,8 +339,8 @@ fn main() -> ExitCode {
         (INF, 6.5, (Through, 3)),
         (NAN, 6.5, (Through, 3)),
         (1.0, NAN, (Through, 3)),
-        (16_777_217.0, 6.5, (Finite, 9)),
-        (1.0, 2.4e7, (Finite, 9)),
+        (1_048_577.0, 6.5, (Finite, 9)),
+        (1.0, 1.5e6, (Finite, 9)),
     ] {
         let mut x = Orbit { epoch, ..day.x };
         x.elements[1] = node;

@@ -260,16 +260,15 @@ fn sines(v: &mut Vectors) {
     }
     v.group("sin, cos: the limit, and the float past it, which is refused");
     three(ANGLE_LIMIT, |x| both_signs(&[x], |x| v.sin_and_cos(x)));
-    v.group("sin, cos: the former limit, and the float past it, which is answered too");
-    three(FORMER_ANGLE_LIMIT, |x| both_signs(&[x], |x| v.sin_and_cos(x)));
+    both_signs(&[NEXT_ANGLE_LIMIT], |x| v.sin_and_cos(x));
     v.group("sin, cos: about the last angle without a reduction");
     three(0.7853981633974483, |x| both_signs(&[x], |x| v.sin_and_cos(x)));
     v.group("sin, cos: multiples of π/2, and the float to each side: every quadrant");
-    for k in [1.0, 2.0, 3.0, 4.0, 5.0, 1000.0, 65537.0, 667543.0, 667544.0, 10680706.0, 10680707.0] {
+    for k in [1.0, 2.0, 3.0, 4.0, 5.0, 1000.0, 65537.0, 667543.0, 667544.0] {
         three(quarter_turns(k), |x| both_signs(&[x], |x| v.sin_and_cos(x)));
     }
     v.group("sin, cos: odd multiples of π/4, and the float to each side");
-    for k in [1.5, 2.5, 3.5, 4.5, 1000.5, 333333.5, 10680706.5] {
+    for k in [1.5, 2.5, 3.5, 4.5, 1000.5, 333333.5] {
         three(quarter_turns(k), |x| both_signs(&[x], |x| v.sin_and_cos(x)));
     }
     v.group("sin, cos: up to π/4");

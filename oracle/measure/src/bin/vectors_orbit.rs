@@ -1,10 +1,9 @@
 //! Writes the vector file that the program `vectors_orbit` replays, the same bytes at each run. What the
 //! Rust answers, with the library's floats, is its answer; where it panics, hangs or answers a NaN, the
-//! number is that of document 01's table. The library is asked too, and must say the same. A build at
-//! e = 0.715 exactly is by the Rust with g520's comparison there changed.
-use measure::orbits::{question, whole, Choice, Orbit, CORRECTED, ECCENTRICITIES, MOTIONS};
+//! number is that of document 01's table. The library is asked too, and must say the same.
+use measure::orbits::{question, whole, Choice, Orbit, ECCENTRICITIES, MOTIONS};
 use measure::random::{Random, SEED};
-use measure::rust::{Corrected, Ours, Rust};
+use measure::rust::{Ours, Rust};
 use measure::{beside, same, ANGLE_LIMIT};
 use orbt::orbits::{self, Constants, State};
 use std::fmt::Write;
@@ -131,16 +130,10 @@ impl Vectors {
         let built = match by {
             R => {
                 let rates: &[f64; 10] = given[21..].try_into().unwrap();
+                sgp4_ours::give_rates(rates);
                 let numbers: &[f64; 21] = given[..21].try_into().unwrap();
-                let (kind, numbers) = if given[7] == CORRECTED {
-                    sgp4_corrected::give_rates(rates);
-                    Corrected::numbers(&sgp4_corrected::build(is_afspc, numbers, 1.0, 1.0))
-                } else {
-                    sgp4_ours::give_rates(rates);
-                    Ours::numbers(&sgp4_ours::build(is_afspc, numbers, 1.0, 1.0))
-                };
+                let (kind, numbers) = Ours::numbers(&sgp4_ours::build(is_afspc, numbers, 1.0, 1.0));
                 sgp4_ours::give_nothing();
-                sgp4_corrected::give_nothing();
                 let ours = ours.unwrap_or_else(|number| panic!("a build is refused {number}"));
                 assert!(ours.kind == kind && ours.numbers.iter().zip(&numbers).all(|(a, b)| same(*a, *b)));
                 self.number(0);
@@ -237,7 +230,7 @@ impl Vectors {
         self.floats(asked);
         let ours = orbits::ask(c, state, asked);
         let told = if let T(number) = by { number } else { 0 };
-        if (1..=8).contains(&told) || told == 21 {
+        if (1..=8).contains(&told) {
             assert!(
                 ours.number == told && ours.steps == 0 && alike(ours.state, state),
                 "{} for {told}",
@@ -246,11 +239,6 @@ impl Vectors {
             self.refusal(told);
             write!(self.text, " {:08X}", 0).unwrap();
             self.state(state, true);
-            if told == 21 {
-                let time = state.unwrap()[0];
-                assert!(same(ours.elements[0], time));
-                self.told(&[time]);
-            }
             self.end();
             return state;
         }
@@ -434,10 +422,10 @@ fn geometries(v: &mut Vectors) {
         v.geometry(beside(node, 1), 20.0, T(9));
     }
     v.group("geometry: the Moon's perigee within the limit of angles, and past it; and days that overflow");
-    v.geometry(1.0, 2.362e7, R);
-    v.geometry(1.0, -2.362e7, R);
-    v.geometry(1.0, 2.363e7, T(9));
-    v.geometry(1.0, -2.363e7, T(9));
+    v.geometry(1.0, 1.4763e6, R);
+    v.geometry(1.0, -1.4763e6, R);
+    v.geometry(1.0, 1.4768e6, T(9));
+    v.geometry(1.0, -1.4768e6, T(9));
     v.geometry(1.0, 1e306, T(9));
 }
 
@@ -449,7 +437,7 @@ fn builds(v: &mut Vectors) {
         Ours::build(&x);
         v.build(x.is_afspc_time, x.flag as u32, &x.given(&Ours::rates()), R);
     }
-    v.group("build: half-day, e at 0.5, 0.65, 0.7, 0.715 and the float to each side; at 0.715 by the Rust with <= in g520's comparison");
+    v.group("build: half-day, e at 0.5, 0.65, 0.7, 0.715 and the float to each side");
     let (half, _) = drawn(&mut Random::stream(532), 2);
     for e in ECCENTRICITIES {
         for e in three(e) {
@@ -501,7 +489,7 @@ fn builds(v: &mut Vectors) {
     v.build(true, 0, &but(&[(23, f64::MAX), (28, f64::MAX)]), T(13));
     v.build(true, 0, &but(&[(23, f64::MAX), (28, -f64::MAX)]), R);
     v.group("build: 9 comes before 13");
-    v.build(false, 0, &but(&[(5, 2e7), (11, 1e150)]), T(9));
+    v.build(false, 0, &but(&[(5, 2e6), (11, 1e150)]), T(9));
 }
 
 fn steps(v: &mut Vectors) {
@@ -596,23 +584,23 @@ fn examples(v: &mut Vectors) {
         v.group("ask: the neighbours of (c): the float before 720 makes no step, the one after it one");
         v.ask(&c, fresh, &asked_at(&x, &c, beside(720.0, -1)), R);
         let state = v.ask(&c, fresh, &asked_at(&x, &c, beside(720.0, 1)), R);
-        v.group("ask: a run: state at 720; (g) 1000 then 800, no step; (h) 719 is refused 21; (i) -0.0 is refused 7");
+        v.group("ask: a run: state at 720; (g) 1000 then 800, no step; (h) 719 is refused 7; (i) -0.0 is refused 7");
         for t in [1000.0, 800.0] {
             v.ask(&c, state, &asked_at(&x, &c, t), R);
         }
-        v.ask(&c, state, &asked_at(&x, &c, 719.0), T(21));
+        v.ask(&c, state, &asked_at(&x, &c, 719.0), T(7));
         v.ask(&c, state, &asked_at(&x, &c, -0.0), T(7));
-        v.group("ask: the run goes on: +0.0 and the float before 720 are refused 21, 720 itself is answered, -1000 is refused 7");
-        v.ask(&c, state, &asked_at(&x, &c, 0.0), T(21));
-        v.ask(&c, state, &asked_at(&x, &c, beside(720.0, -1)), T(21));
+        v.group("ask: the run goes on: +0.0 and the float before 720 are refused 7, 720 itself is answered");
+        v.ask(&c, state, &asked_at(&x, &c, 0.0), T(7));
+        v.ask(&c, state, &asked_at(&x, &c, beside(720.0, -1)), T(7));
         v.ask(&c, state, &asked_at(&x, &c, 720.0), R);
         v.ask(&c, state, &asked_at(&x, &c, -1000.0), T(7));
         v.group("ask: the same going back");
         let state = v.ask(&c, fresh, &asked_at(&x, &c, -725.0), R);
-        v.ask(&c, state, &asked_at(&x, &c, -0.0), T(21));
+        v.ask(&c, state, &asked_at(&x, &c, -0.0), T(7));
         v.ask(&c, state, &asked_at(&x, &c, 0.0), T(7));
         v.ask(&c, state, &asked_at(&x, &c, 800.0), T(7));
-        v.ask(&c, state, &asked_at(&x, &c, -719.0), T(21));
+        v.ask(&c, state, &asked_at(&x, &c, -719.0), T(7));
         v.ask(&c, state, &asked_at(&x, &c, -720.0), R);
         v.group("ask: -0.0 at a fresh state is answered");
         v.ask(&c, fresh, &asked_at(&x, &c, -0.0), R);
@@ -626,7 +614,7 @@ fn examples(v: &mut Vectors) {
         v.ask(&c, fresh, &plain(t), T(2));
     }
     v.ask(&c, far, &plain(LIMIT), R);
-    v.ask(&c, far, &plain(beside(LIMIT, -1)), T(21));
+    v.ask(&c, far, &plain(beside(LIMIT, -1)), T(7));
     v.group("ask: 2 for a non-resonant orbit too, and at the limit an answer");
     let (_, n) = drawn(&mut r, 0);
     let n = changed(&n, &(11..20).map(|place| (place, 0.0)).collect::<Vec<_>>());
@@ -674,32 +662,19 @@ fn refusals(v: &mut Vectors) {
     v.ask(&day, None, &asked_at(&one, &day, 1500.0), T(5));
     v.ask(&non, Some([f64::NAN, 1.0, 1.0]), &asked_at(&other, &non, 1500.0), T(3));
     v.ask(&changed(&day, &[(0, f64::NAN)]), None, &q, T(3));
-    v.group("ask: 6 where the state's time is -0.0, no multiple of 720, or beyond the limit; 4 before it, 7 and 21 after");
+    v.group("ask: 6 where the state's time is -0.0, no multiple of 720, or beyond the limit; 4 before it, 7 after");
     let [_, n, l] = fresh.unwrap();
     for t in [-0.0, 1.0, 360.0, 719.0, 721.0, beside(720.0, -1), 5e-324, LIMIT + 720.0, -LIMIT - 720.0] {
         v.ask(&half, Some([t, n, l]), &q, T(6));
     }
     v.ask(&non, Some([1.0, n, l]), &q, T(4));
     v.ask(&half, Some([-1.0, n, l]), &q, T(6));
-    v.group("ask: 7 and 21, and their neighbours at 1440");
-    for (t, by) in [(2160.0, T(21)), (1440.0, R), (720.0, R), (-720.0, T(7))] {
+    v.group("ask: 7, and its neighbours at 1440");
+    for (t, by) in [(2160.0, T(7)), (1440.0, R), (720.0, R), (-720.0, T(7))] {
         v.ask(&half, Some([t, n, l]), &q, by);
     }
     v.ask(&half, Some([1440.0, n, l]), &asked_at(&x, &half, 1440.0), R);
-    v.ask(&half, Some([1440.0, n, l]), &asked_at(&x, &half, beside(1440.0, -1)), T(21));
-    v.group("ask: every pair of signs and sizes: 7 where the signs differ, 21 where t is the smaller, else an answer");
-    for time in [720.0f64, 1440.0, -720.0, -1440.0] {
-        for size in [0.0f64, 719.0, 720.0, 1440.0, 2160.0] {
-            for t in [size, -size] {
-                let by = match t.is_sign_negative() != (time < 0.0) {
-                    true => T(7),
-                    false if size < time.abs() => T(21),
-                    false => R,
-                };
-                v.ask(&half, Some([time, n, l]), &asked_at(&x, &half, t), by);
-            }
-        }
-    }
+    v.ask(&half, Some([1440.0, n, l]), &asked_at(&x, &half, beside(1440.0, -1)), T(7));
 
     v.group("ask: 8 where an angle of the first state passes its limit, and the last float before that");
     let c = still(1);
@@ -721,8 +696,8 @@ fn refusals(v: &mut Vectors) {
     v.ask(&c, Some([0.0, 1e20, 1.0]), &plain(719.0), R);
     v.group("ask: 8 in a half-day orbit by its perigee's angle");
     let h = still(2);
-    v.ask(&changed(&h, &[(8, 8000000.0)]), Some([0.0, h.numbers[10], 1.0]), &plain(10.0), R);
-    v.ask(&changed(&h, &[(8, 9000000.0)]), Some([0.0, h.numbers[10], 1.0]), &plain(10.0), T(8));
+    v.ask(&changed(&h, &[(8, 500000.0)]), Some([0.0, h.numbers[10], 1.0]), &plain(10.0), R);
+    v.ask(&changed(&h, &[(8, 600000.0)]), Some([0.0, h.numbers[10], 1.0]), &plain(10.0), T(8));
 
     v.group("ask: 9 where the inclination is past the limit of angles: the state has moved on");
     let state = orbits::fresh(&c);
@@ -743,7 +718,7 @@ fn refusals(v: &mut Vectors) {
         v.ask(&changed(&c, &[(5, i)]), state, &with(plain(1500.0), 1, p22), by);
     }
     v.group("ask: 9 comes before 10");
-    v.ask(&changed(&c, &[(5, 2e7), (7, 0.5)]), state, &plain(10.0), T(9));
+    v.ask(&changed(&c, &[(5, 2e6), (7, 0.5)]), state, &plain(10.0), T(9));
 
     v.group("ask: 10 after steps: the state has moved on; p31 that is no number is carried so");
     v.ask(&changed(&c, &[(7, 1.5)]), state, &plain(5000.0), R);
@@ -832,7 +807,7 @@ fn main() {
     println!("# Answers of the calls on orbits, for the program vectors_orbit.");
     println!("# Made by oracle/make_vectors (program vectors_orbit of crate measure there), {}, seed {SEED:016X}, {} cases.", env!("COMPILER"), v.count);
     println!("# Answers, and refusals 10 and 11, are those of crate sgp4 2.4.0 with the library's floats. Where it panics, hangs or answers a NaN or");
-    println!("# an infinity ({} cases), the refusal is that of document 01's table, with the state as given (1 to 8, 21) or as the Rust left it (9, 12).", v.table);
+    println!("# an infinity ({} cases), the refusal is that of document 01's table, with the state as given (1 to 8) or as the Rust left it (9, 12).", v.table);
     println!("# Floats by their bits, a NaN answered as 7FF8000000000000; refusals in two decimal digits, 00 where there is an answer; steps in");
     println!("# hexadecimal. Constants are kind (0 non-resonant, 1 one-day, 2 half-day), AFSPC flag and 34 numbers in the order of a store's body;");
     println!("# a state is 1, time, mean motion, lambda, and no state 0 and three zeros. A line:");
@@ -842,6 +817,6 @@ fn main() {
     println!("#   build     0 IAU or 1 AFSPC, flag, 31 numbers given; refusal, kind, 34 numbers");
     println!("#   fresh     constants; state");
     println!("#   step      constants, 1 going back, time, mean motion, lambda; refusal, time, mean motion, lambda");
-    println!("#   ask       constants, state, t p22 p23 and ten numbers; refusal, steps, state, twelve elements or what is carried: two numbers, or the time of 21");
+    println!("#   ask       constants, state, t p22 p23 and ten numbers; refusal, steps, state, twelve elements or the two that are carried");
     print!("{}", v.text);
 }

@@ -1,10 +1,10 @@
 //! Writes the vector file that the program `vectors_store` replays, the same bytes at each run. What is
 //! expected is the judge's of `measure::store`; the library's store is not called.
 use measure::beside;
-use measure::orbits::{Choice, Orbit, CORRECTED, ECCENTRICITIES, MOTIONS};
+use measure::orbits::{ECCENTRICITIES, MOTIONS};
 use measure::random::{Random, SEED};
 use measure::store::{
-    body, carried, constants, file, numbers_of, restore_number, save_number, size_of, Record, HEADER, LIMIT, MOST,
+    body, carried, file, numbers_of, restore_number, save_number, size_of, Record, HEADER, LIMIT, MOST,
 };
 use orbt::orbits::{Constants, State};
 use std::fmt::Write;
@@ -844,22 +844,6 @@ fn drawn(v: &mut Vectors) {
     }
 }
 
-// before W5 g520 took its last polynomial at e = 0.715, as the Rust does
-fn built_before(v: &mut Vectors) {
-    v.group("a half-day record at e = 0.715 exactly, with the coefficients that a build gave it before W5: it is saved and restored as it is");
-    let elements = [1.1, 4.2, CORRECTED, 4.7, 0.3, 0.00875];
-    for (choice, steps) in [(1, 0.0), (6, 5.0)] {
-        let c = constants(&Orbit::new(Choice(choice), elements, 20.0, 1e-4));
-        assert!(c.kind == 2);
-        let state = carried(&c, 720.0 * steps);
-        v.file(&file(&[]));
-        v.record(&c, state);
-        v.save(715, ROOM);
-        v.turn();
-        v.restore(715);
-    }
-}
-
 fn main() {
     let mut v = Vectors { text: String::new(), count: 0, file: vec![], new: vec![], told: [0; PLACES] };
     empty(&mut v);
@@ -872,7 +856,6 @@ fn main() {
     refused_saves(&mut v);
     full(&mut v);
     drawn(&mut v);
-    built_before(&mut v);
     println!("# Answers of the store, for the program vectors_store.");
     println!("# Made by oracle/make_vectors (program vectors_store of crate measure there), {}, seed {SEED:016X}, {} cases.", env!("COMPILER"), v.count);
     println!("# Files are written and judged from document 01 alone; the replay of 18 is crate sgp4 2.4.0's, with the library's floats.");

@@ -16,10 +16,9 @@ use Rattle.body.proofs.read.is_shaped.Tie as tie
 returns : tie.Need-returns
 unfolding shaped
 returns c =
-    let a = c.before.before.args in
-    let s = a.body.now in
-    let m = size-least a.layout (kind_in s) in
-    simp (ne_eqb (length s) (size_of a.layout (kind_in s)) (λ e. omega arith))
+    let s = c.before.before.args.body.now in
+    let m = size-least (kind_in s) in
+    simp (ne_eqb (length s) (size_of (kind_in s)) (λ e. omega arith))
 
 cast-size-of : tie.Need-overflow-cast-size-of
 cast-size-of c = let k = c.shared-slice-known2.given 0 in omega arith

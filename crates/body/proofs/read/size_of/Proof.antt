@@ -1,7 +1,7 @@
 -- `body::read::size_of` meets its contract: each arm is that of the kind. Assumes nothing.
 use native.Mathlib.Omega.{arith}
 use borrow.Author.Tests.{eq-eqb, ne_eqb}
-use Rattle.body.proofs.Sizes.{start-most, count_most}
+use Rattle.body.proofs.Sizes.{count_most}
 use borrow.Author.Rules.{rules}
 use Rattle.body.proofs.read.size_of.Statement.{statement}
 use Rattle.body.proofs.read.size_of.Tie as tie
@@ -10,12 +10,7 @@ returns : tie.Need-returns
 returns c = simp (c.state-start.ensures, eq-eqb c.before.before.args.kind 0 c.before.if1.true)
 
 add-result : tie.Need-overflow-add-result
-add-result c =
-    let a = c.before.before.args in
-    let m = count_most a.kind in
-    let k = start-most a.layout in
-    let e = c.state-start2.ensures in
-    omega arith
+add-result c = let m = count_most c.before.before.args.kind in let e = c.state-start2.ensures in omega arith
 
 returns-2 : tie.Need-returns-2
 returns-2 c = simp (c.state-start2.ensures, ne_eqb c.before.before.args.kind 0 c.before.if1.false)

@@ -5,7 +5,7 @@ use Rattle.controller.proofs.Controller.ask.Statement.{statement}
 use Rattle.controller.proofs.Controller.ask.Tie as tie
 
 returns : tie.Need-returns
-returns c = ap (after c.before.before.before.args.self.held) c.ask.ensures
+returns c = ap (after c.before.before.args.self.constants) c.ask.ensures
 
 pub ask-spec : {M : Type 1} → statement M
 ask-spec = tie.close (tie.spec (λ c κs. tt) returns)

@@ -1,13 +1,17 @@
--- `floats::finite::is_negative` meets its contract: a pattern of 2 ^ 63 or more has the sign bit. Assumes nothing.
-use mathlib.Core.Path.{◌≡◌, sym, ap, ◌∙◌, subst}
-use Prim.Native.Nat.{ℕ, ◌^◌}
-use lib.Dec.{T, leb}
-use Rattle.floats.proofs.Values.{sign_bit}
+-- `floats::finite::is_negative` meets its contract: a zero shows its sign in its quotient, and no other number needs to. Assumes nothing.
+use mathlib.Core.Path.{◌≡◌, refl, sym, ap, ◌∙◌}
+use lib.Ieee.{of_bits}
+use Rattle.floats.proofs.Values.{at_zero, past-zero}
 use Rattle.floats.proofs.finite.is_negative.Statement.{statement}
 use Rattle.floats.proofs.finite.is_negative.Tie as tie
 
 returns : tie.Need-returns
-returns c = ap (leb (2 ^ 63)) c.bits_of.ensures ∙ sign_bit c.before.args.x (subst T (sym c.before.well-formed.0.1) tt)
+unfolding of_bits
+returns c = at_zero c.before.args.x c.if1.true
+
+returns-2 : tie.Need-returns-2
+unfolding of_bits
+returns-2 c = past-zero c.before.args.x c.if1.false
 
 pub is-negative-spec : {M : Type 1} → statement M
-is-negative-spec = tie.close (tie.spec (λ c κs. tt) returns)
+is-negative-spec = tie.close (tie.spec returns returns-2)

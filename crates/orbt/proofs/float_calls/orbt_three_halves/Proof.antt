@@ -1,6 +1,6 @@
 -- `orbt::float_calls::orbt_three_halves` meets its contract: number and answer are those of the call. Assumes nothing.
 use mathlib.Core.Path.{◌≡◌, ap, ◌∙◌}
-use Rattle.roots.specs.Root.{number}
+use Rattle.floats.specs.Root.{number}
 use Rattle.orbt.specs.Written.{root_or}
 use Rattle.orbt.proofs.float_calls.orbt_three_halves.Statement.{statement}
 use Rattle.orbt.proofs.float_calls.orbt_three_halves.Tie as tie

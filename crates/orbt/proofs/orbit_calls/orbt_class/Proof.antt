@@ -1,6 +1,6 @@
 -- `orbt::orbit_calls::orbt_class` meets its contract. Assumes nothing.
 use mathlib.Core.Path.{◌∙◌, ap}
-use Rattle.constants_list.specs.Numbers.{class_kind}
+use Rattle.record.specs.Record.{class_kind}
 use Rattle.orbt.proofs.orbit_calls.orbt_class.Statement.{statement}
 use Rattle.orbt.proofs.orbit_calls.orbt_class.Tie as tie
 

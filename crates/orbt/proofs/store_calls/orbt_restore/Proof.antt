@@ -16,19 +16,38 @@ by_answer {a} {b} {k} {f} {cs} {h} {s} {r} {k'} {f'} {cs'} {h'} {s'} {n} e l = s
 
 returns : tie.Need-returns
 returns c =
-    let k = c.before in
-    let f = k.before.before in
-    by_answer (sym f.before.before.restore.ensures ∙ f.fault.given.1)
-    record { number = c.number.ensures; kind = refl; flag = refl; constants = refl; held = refl; state = refl; steps = k.steps.ensures }
+    by_answer (sym c.before.before.restore.ensures ∙ c.enum_told.given.1)
+    record { number = refl; kind = refl; flag = refl; constants = refl; held = refl; state = refl; steps = refl }
 
 returns-2 : tie.Need-returns-2
 returns-2 c =
+    by_answer (sym c.before.before.restore.ensures ∙ c.enum-told2.given.1)
+    record { number = refl; kind = refl; flag = refl; constants = refl; held = refl; state = refl; steps = refl }
+
+returns-3 : tie.Need-returns-3
+returns-3 c =
+    by_answer (sym c.before.before.restore.ensures ∙ c.enum-told3.given.1)
+    record { number = refl; kind = refl; flag = refl; constants = refl; held = refl; state = refl; steps = refl }
+
+returns-4 : tie.Need-returns-4
+returns-4 c =
+    by_answer (sym c.before.before.restore.ensures ∙ c.enum-told4.given.1)
+    record { number = refl; kind = refl; flag = refl; constants = refl; held = refl; state = refl; steps = refl }
+
+returns-5 : tie.Need-returns-5
+returns-5 c =
+    let m = c.before in
+    by_answer (sym m.before.before.restore.ensures ∙ m.made.given.1)
+    record { number = refl; kind = refl; flag = refl; constants = refl; held = refl; state = refl; steps = refl }
+
+returns-6 : tie.Need-returns-6
+returns-6 c =
     let h = c.before.before in
     let n = h.before in
     let f = n.before in
     let k = f.before in
-    let o = k.before.before.before in
-    by_answer (sym o.before.before.restore.ensures ∙ o.h.given.1)
+    let o = k.before.before in
+    by_answer (sym o.before.before.restore.ensures ∙ o.c.given.1)
     record {
       number = refl;
       kind = k.kind-of.ensures;
@@ -45,8 +64,10 @@ orbt-restore-spec =
     (tie.spec
     (λ c κs. tt)
     (λ c. search rules)
-    (λ c κs. tt)
-    (λ c κs. tt)
+    (λ c. search rules)
+    (λ c. search rules)
+    (λ c. search rules)
+    (λ c. search rules)
     (λ c. search rules)
     (λ c κs. tt)
     (λ c κs. tt)
@@ -54,4 +75,8 @@ orbt-restore-spec =
     (λ c κs. tt)
     (λ c κs. tt)
     returns
-    returns-2)
+    returns-2
+    returns-3
+    returns-4
+    returns-5
+    returns-6)

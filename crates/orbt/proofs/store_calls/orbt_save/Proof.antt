@@ -3,19 +3,21 @@ use mathlib.Core.Path.{◌≡◌, refl, sym, ap, ◌∙◌, subst}
 use mathlib.Core.Bool.{Bool, true, false}
 use mathlib.Core.List.{List}
 use Prim.Native.Nat.{ℕ}
+use lib.Dec.{eqb}
 use lib.ListN.{length}
 use Rattle.orbit.specs.declared.propagator.Constants.{Constants}
+use Rattle.record.specs.Record.{constants_of}
 use Rattle.resonance.specs.declared.state.MaybeState.{MaybeState}
-use Rattle.body.specs.declared.held.Held.{Held}
-use Rattle.store.specs.declared.save.Saved.{Saved}
-use Rattle.store.specs.Save.{saved_number, size_or, saved, saved_file, output_after}
-use Rattle.orbt.specs.Store.{held_of, SaveBy}
+use Rattle.store.specs.declared.save.Stored.{Stored}
+use Rattle.store.specs.Save.{number, stored, stored_file, output_after}
+use Rattle.orbt.specs.Orbits.{maybe_of}
+use Rattle.orbt.specs.Store.{size_or, SaveBy}
 use borrow.Author.Rules.{rules}
 use Rattle.orbt.proofs.store_calls.orbt_save.Statement.{statement}
 use Rattle.orbt.proofs.store_calls.orbt_save.Tie as tie
 
 -- the case of a test whose value is known
-by-test : (b v : Bool) (a : Saved) (new out : List ℕ) (n r : ℕ) (out' : List ℕ) (n' : ℕ) → b ≡ v → SaveBy v a new out n r out' n' → SaveBy b a new out n r out' n'
+by-test : (b v : Bool) (a : Stored) (new out : List ℕ) (n r : ℕ) (out' : List ℕ) (n' : ℕ) → b ≡ v → SaveBy v a new out n r out' n' → SaveBy b a new out n r out' n'
 by-test b v a new out n r out' n' p h = subst (λ (x : Bool). SaveBy x a new out n r out' n') (sym p) h
 
 returns : tie.Need-returns
@@ -25,22 +27,24 @@ returns-2 : tie.Need-returns-2
 returns-2 c =
     let z = c.before in
     let v = z.before.before.before.before in
-    let m = v.before.before in
-    let k = m.before.before in
+    let m = v.before in
+    let k = m.before.before.before in
     let e = k.before in
     let w = e.before in
     let a = w.before.before.before.args in
     let s = a.file.now in
     let out = a.out.now in
-    let h = held_of a.kind a.flag a.constants.now a.held a.state.now in
-    let same : record { constants = k.constants-of.result; state = m.maybe-state.result } ≡ h =
-    ap (λ (q : Constants). record { constants = q; state = m.maybe-state.result }) k.constants-of.ensures
-    ∙ ap (λ (q : MaybeState). record { constants = h.constants; state = q }) m.maybe-state.ensures in
-    let called : v.save.result ≡ saved s a.satellite h (length out) =
-    v.save.ensures.0 ∙ ap (λ (g : Held). saved s a.satellite g (length out)) same in
+    let d = constants_of a.kind (eqb a.flag 1) a.constants.now in
+    let y = maybe_of a.held a.state.now in
+    let called : v.save.result ≡ stored s a.satellite d y (length out) =
+    v.save.ensures.0 ∙ ap (λ (q : Constants). stored s a.satellite q m.maybe-state.result (length out)) k.constants-of.ensures
+    ∙ ap (λ (q : MaybeState). stored s a.satellite d q (length out)) m.maybe-state.ensures in
+    let new : stored_file s a.satellite k.constants-of.result m.maybe-state.result ≡ stored_file s a.satellite d y =
+    ap (λ (q : Constants). stored_file s a.satellite q m.maybe-state.result) k.constants-of.ensures
+    ∙ ap (stored_file s a.satellite d) m.maybe-state.ensures in
     by-test _ false _ _ _ _ _ _ _ (sym w.is-wrong.ensures ∙ e.if1.false) (
-      c.number.ensures ∙ ap saved_number called,
-      v.save.ensures.1 ∙ ap (λ (g : Held). output_after v.save.result (saved_file s a.satellite g) out) same ∙ ap (λ (r : Saved). output_after r (saved_file s a.satellite h) out) called,
+      c.number.ensures ∙ ap number called,
+      v.save.ensures.1 ∙ ap (λ (l : List ℕ). output_after v.save.result l out) new ∙ ap (λ (r : Stored). output_after r (stored_file s a.satellite d y) out) called,
       z.size-or.ensures ∙ ap (size_or a.size.now) called,
     )
 

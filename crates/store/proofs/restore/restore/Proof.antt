@@ -23,11 +23,15 @@ part-read-body-end c = inside c.before
 
 returns : tie.Need-returns
 unfolding restored_from
-returns c = let f = c.before in simp (← f.before.before.find.ensures, f.fault.given.1)
+returns c = simp (← c.before.before.find.ensures, c.enum_told.given.1)
 
 returns-2 : tie.Need-returns-2
 unfolding restored_from
-returns-2 c =
+returns-2 c = simp (← c.before.before.find.ensures, c.enum-told2.given.1)
+
+returns-3 : tie.Need-returns-3
+unfolding restored_from
+returns-3 c =
     let r = c.before in
     let o = r.before.before.before in
     simp (← o.before.before.find.ensures, o.offset.given.1, c.of-body.ensures, r.read-body.ensures, add-sub_cancel_left)
@@ -39,6 +43,7 @@ restore-spec =
     (λ c κs. tt)
     (λ c. search rules)
     (λ c. search rules)
+    (λ c. search rules)
     add-end
     (λ c. search rules)
     (λ c. search rules)
@@ -46,4 +51,5 @@ restore-spec =
     (λ c κs. tt)
     (λ c κs. tt)
     returns
-    returns-2)
+    returns-2
+    returns-3)

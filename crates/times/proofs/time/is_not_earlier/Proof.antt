@@ -1,5 +1,5 @@
 -- `times::time::is_not_earlier` meets its contract: the order of the magnitudes is that of the sizes. Assumes nothing.
-use Rattle.std.proofs.Common.{◌∙◌, ap₂}
+use mathlib.Core.Path.{ap₂, ◌∙◌}
 use lib.Ieee.{Float, le}
 use Rattle.floats.proofs.Exact.{sizes}
 use Rattle.times.proofs.time.is_not_earlier.Statement.{statement}

@@ -1,6 +1,6 @@
 -- `times::time::is_same_way` meets its contract: a zero by the comparison, the sign bits by their function. Assumes nothing.
-use Rattle.std.proofs.Common.{Bool, ◌||◌, ap₂}
-use mathlib.Core.Bool.{beq}
+use mathlib.Core.Path.{ap₂}
+use mathlib.Core.Bool.{Bool, beq, ◌||◌}
 use lib.Ieee.{of_bits}
 use Rattle.floats.proofs.Exact.{is-zero}
 use Rattle.times.proofs.time.is_same_way.Statement.{statement}

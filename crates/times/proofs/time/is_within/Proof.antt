@@ -1,5 +1,5 @@
 -- `times::time::is_within` meets its contract: two comparisons with ±720·2^20. Assumes nothing.
-use Rattle.std.proofs.Common.{refl}
+use mathlib.Core.Path.{refl}
 use lib.Ieee.{of_bits, neg}
 use Rattle.floats.proofs.Values.{between}
 use Rattle.times.proofs.time.is_within.Statement.{statement}

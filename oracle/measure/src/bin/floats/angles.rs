@@ -25,7 +25,7 @@ fn eighths(first: u64, limit: f64, about: i64, f: &mut dyn FnMut(f64)) {
     }
 }
 
-const ANGLES: [Family<f64>; 9] = [
+const ANGLES: [Family<f64>; 8] = [
     ("up to π/4: no reduction", |f| {
         let mut r = Random::stream(1);
         (0..3_000_000).for_each(|_| f(r.within(0.7853981633974483)))
@@ -34,29 +34,22 @@ const ANGLES: [Family<f64>; 9] = [
         let mut r = Random::stream(2);
         (0..3_000_000).for_each(|_| f(r.within(7.0)))
     }),
-    ("up to 1,048,576, the former limit, evenly", |f| {
+    ("up to the limit, evenly", |f| {
         let mut r = Random::stream(3);
-        (0..3_000_000).for_each(|_| f(r.within(FORMER_ANGLE_LIMIT)))
-    }),
-    ("from there to the limit, evenly", |f| {
-        let mut r = Random::stream(6);
-        for _ in 0..10_000_000 {
-            let x = FORMER_ANGLE_LIMIT + r.unit() * (ANGLE_LIMIT - FORMER_ANGLE_LIMIT);
-            f(r.signed(x))
-        }
+        (0..3_000_000).for_each(|_| f(r.within(ANGLE_LIMIT)))
     }),
     ("2^-60 to the limit, every exponent", |f| {
         let mut r = Random::stream(4);
-        (0..2_000_000).for_each(|_| f(r.scaled(-60, 24)))
+        (0..2_000_000).for_each(|_| f(r.scaled(-60, 20)))
     }),
-    ("every multiple of π/2 and a float to each side", |f| eighths(2, ANGLE_LIMIT, 1, f)),
-    ("every odd multiple of π/4", |f| eighths(1, ANGLE_LIMIT, 0, f)),
+    ("every multiple of π/2 and two floats to each side", |f| eighths(2, ANGLE_LIMIT, 2, f)),
+    ("every odd multiple of π/4 and two floats to each side", |f| eighths(1, ANGLE_LIMIT, 2, f)),
     ("subnormals", |f| {
         let mut r = Random::stream(5);
         (0..1_000_000).for_each(|_| f(r.subnormal()))
     }),
     ("zeros, both ends and the change at π/4", |f| {
-        for x in [0.0, f64::MIN_POSITIVE, 5e-324, 0.7853981633974483, PI, FORMER_ANGLE_LIMIT, ANGLE_LIMIT] {
+        for x in [0.0, f64::MIN_POSITIVE, 5e-324, 0.7853981633974483, PI, ANGLE_LIMIT] {
             for x in [x, beside(x, 1), if x == 0.0 { x } else { beside(x, -1) }] {
                 if x <= ANGLE_LIMIT {
                     f(x);
@@ -65,6 +58,18 @@ const ANGLES: [Family<f64>; 9] = [
             }
         }
     }),
+];
+
+const FURTHER_ANGLES: [Family<f64>; 3] = [
+    ("from the limit to 16,777,216, evenly", |f| {
+        let mut r = Random::stream(6);
+        for _ in 0..10_000_000 {
+            let x = ANGLE_LIMIT + r.unit() * (NEXT_ANGLE_LIMIT - ANGLE_LIMIT);
+            f(r.signed(x))
+        }
+    }),
+    ("every multiple of π/2 to 16,777,216 and a float to each side", |f| eighths(2, NEXT_ANGLE_LIMIT, 1, f)),
+    ("every odd multiple of π/4 to 16,777,216", |f| eighths(1, NEXT_ANGLE_LIMIT, 0, f)),
 ];
 
 const REFUSED_ANGLES: Family<f64> = ("beyond the limit, infinities, NaNs", |f| {
@@ -78,14 +83,14 @@ const REFUSED_ANGLES: Family<f64> = ("beyond the limit, infinities, NaNs", |f| {
         if x.is_nan() || x.abs() > ANGLE_LIMIT {
             f(x);
         }
-        f(r.scaled(24, 34) * (1.0 + f64::EPSILON));
+        f(r.scaled(20, 30) * (1.0 + f64::EPSILON));
     }
 });
 
 pub fn sines(table: &mut Table) {
     let (mut sin, mut cos) = (vec![], vec![]);
     let mut both = Row::new("sin_cos", "all of these", "sin and cos", EQUAL);
-    let mut recipe = Row::new("sin_cos", "all of these", "the recipe in Rust as it first was", EQUAL);
+    let mut recipe = Row::new("sin_cos", "all of these", "the recipe in Rust", EQUAL);
     for (inputs, family) in ANGLES {
         let mut sin_row = Row::new("sin", inputs, "Rust's own", NEAR);
         let mut cos_row = Row::new("cos", inputs, "Rust's own", NEAR);
@@ -111,12 +116,16 @@ pub fn sines(table: &mut Table) {
     });
     table.add(vec![refused]);
 
-    let inputs = "each number of quarter turns: the one angle that would reduce to 0";
-    let mut none = Row::new("sin_cos", inputs, "is no float", EQUAL);
-    for k in 1..=measure::recipe::quarters(ANGLE_LIMIT) {
-        none.holds(!measure::recipe::reduces_to_0(k), &[k as f64]);
+    for (inputs, family) in FURTHER_ANGLES {
+        let mut sin_row = Row::new("sin, note", inputs, "the recipe in Rust with Rust's own", NEAR);
+        let mut cos_row = Row::new("cos, note", inputs, "the recipe in Rust with Rust's own", NEAR);
+        family(&mut |x| {
+            let (s, c) = measure::recipe::sin_cos(x);
+            sin_row.take(s, x.sin(), &[x]);
+            cos_row.take(c, x.cos(), &[x]);
+        });
+        table.add(vec![sin_row, cos_row]);
     }
-    table.add(vec![none]);
 }
 
 const POINTS: [Family<(f64, f64)>; 9] = [

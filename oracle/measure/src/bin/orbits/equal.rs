@@ -1,6 +1,6 @@
 //! With the library's floats in the Rust: equal bits of everything.
 use crate::table::{Parts, Row, Table};
-use measure::orbits::{question, whole, Choice, Orbit, Published, CORRECTED, ECCENTRICITIES, MOTIONS};
+use measure::orbits::{question, whole, Choice, Orbit, Published, ECCENTRICITIES, MOTIONS};
 use measure::random::Random;
 use measure::rust::{Ours, Rust};
 use measure::tally::EQUAL;
@@ -52,10 +52,6 @@ impl Rows {
         match geometry(x.elements[1], x.epoch) {
             Ok(bodies) => self.geometry.take(&bodies, &Ours::bodies(), at),
             Err(_) => self.geometry.holds(false, at),
-        }
-        if kind == 2 && x.elements[2] == CORRECTED {
-            parts.leave_out();
-            return None;
         }
         self.constants.call();
         match build(x.is_afspc_time, x.flag as u32, &x.given(&Ours::rates())) {
@@ -187,7 +183,7 @@ fn sidereal_times(table: &mut Table) {
 }
 
 fn geometries(table: &mut Table) {
-    let mut row = Row::new("geometry", "nodes and epochs to 1,048,576", EQUAL);
+    let mut row = Row::new("geometry", "nodes to 1,048,576, epochs to 1.47 million years", EQUAL);
     let mut r = Random::stream(403);
     for _ in 0..100_000 {
         let (node, epoch) = (r.scaled(-10, 20), r.scaled(-10, 20));

@@ -37,7 +37,6 @@ pub struct Parts {
     flags: [u64; 2],
     ways: [u64; 2],
     branches: [u64; 2],
-    left_out: u64,
 }
 
 impl Parts {
@@ -48,11 +47,6 @@ impl Parts {
         self.flags[flag as usize] += 1;
     }
 
-    /// A half-day build at e = 0.715 exactly, where the library follows the published routine.
-    pub fn leave_out(&mut self) {
-        self.left_out += 1;
-    }
-
     /// An ask that was answered, with this inclination.
     pub fn ask(&mut self, t: f64, inclination: f64) {
         self.ways[(t < 0.0) as usize] += 1;
@@ -60,10 +54,9 @@ impl Parts {
     }
 
     fn print(&self) {
-        let Parts { kinds, models, times, flags, ways, branches, left_out } = self;
+        let Parts { kinds, models, times, flags, ways, branches } = self;
         println!("\nEqual bits, builds: non-resonant, one-day, half-day {kinds:?}; WGS84, WGS72 {models:?}; IAU, AFSPC time {times:?}; flag off, on {flags:?}.");
         println!("Asks answered: t not below 0, below {ways:?}; I not below 0.2, below {branches:?}.");
-        println!("Left out: {left_out} half-day builds at e = 0.715 exactly, where g520 follows the published routine.");
     }
 }
 

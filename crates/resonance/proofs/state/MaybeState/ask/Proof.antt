@@ -1,35 +1,19 @@
--- `resonance::state::MaybeState::ask` meets its contract: the ask is its two parts, and each arm is that of the first. Assumes nothing.
+-- `resonance::state::MaybeState::ask` meets its contract: with or without a state. Assumes nothing.
+use mathlib.Core.Path.{◌≡◌, refl, sym, ap, ◌∙◌}
 use borrow.Author.Rules.{rules}
-use mathlib.Core.Path.{◌≡◌, sym, ap, ◌∙◌}
-use mathlib.Core.Bool.{Bool}
-use Rattle.elements.specs.declared.elements.Outcome.{Outcome}
-use Rattle.resonance.specs.declared.ask.Answer.TheVariants.{Reached}
-use Rattle.resonance.specs.declared.ask.Located.{Located}
-use Rattle.resonance.specs.Ask.{asked, ask_of}
-use Rattle.resonance.specs.Locate.{located_of, answered}
-use Rattle.resonance.proofs.Parts.{parts}
 use Rattle.resonance.proofs.state.MaybeState.ask.Statement.{statement}
 use Rattle.resonance.proofs.state.MaybeState.ask.Tie as tie
 
--- from what the first part gives
-whole : (c : tie.After-locate) → let a = c.before.before.args in answered a.c a.self a.q c.locate.result ≡ ask_of a.c a.self a.q
-whole c =
-    let a = c.before.before.args in
-    ap (λ (l : Located). answered a.c a.self a.q l) (c.locate.ensures ∙ ap (λ (b : Bool). located_of a.c a.self a.q b) c.before.is_finite.ensures)
-    ∙ sym (parts a.c a.self a.q)
-
 returns : tie.Need-returns
 returns c =
-    let c3 = c.before.before.before in
-    let a = c3.before.before.args in
-    ap (λ (l : Located). answered a.c a.self a.q l) (sym c.before.fault.given.1) ∙ whole c3
+    let c1 = c.before in
+    simp (c1.enum_told.given.1, c.none-ask.ensures)
 
 returns-2 : tie.Need-returns-2
 returns-2 c =
-    let c4 = c.before.before.before.before in
-    let a = c4.before.before.args in
-    let g = c.before.before.p28.given in
-    ap (λ (o : Outcome). asked (Reached o) g.0.1.1.0 g.0.1.1.1.0) c.elements-at.ensures ∙ ap (λ (l : Located). answered a.c a.self a.q l) (sym g.1) ∙ whole c4
+    let c1 = c.before in
+    let c3 = c1.before.before in
+    simp (c3.self.given.1, sym c1.ask.ensures)
 
 pub ask-spec : {M : Type 1} → statement M
-ask-spec = tie.close (tie.spec (λ c κs. tt) (λ c κs. tt) (λ c. search rules) (λ c. search rules) (λ c κs. tt) returns returns-2)
+ask-spec = tie.close (tie.spec (λ c. search rules) (λ c κs. tt) (λ c. search rules) (λ c κs. tt) returns returns-2)

@@ -8,8 +8,8 @@ use native.Mathlib.Omega.{arith}
 use denote.Floats.{passes}
 use lib.Dec.{T}
 use lib.Ieee.{of_bits, lt, fits, binary64}
-use Rattle.times.specs.Time.{steps_in, back, due}
-use Rattle.resonance.proofs.Walk.{Walk, walk_start, walk-compares, walk_more, walk-few, walk-next, walk-stop, walk_end}
+use Rattle.times.specs.Time.{number, back, due}
+use Rattle.resonance.proofs.Walk.{Walk, walk_start, walk_more, walk-few, walk-next, walk-stop, walk_end}
 use Rattle.resonance.proofs.state.ResonanceState.walk.Statement.{statement}
 use Rattle.resonance.proofs.state.ResonanceState.walk.Tie as tie
 
@@ -17,7 +17,7 @@ abbrev invariant-loop : tie.invariant-loop
 invariant-loop c t b s n₀ st n = Walk c s t b st n
 
 abbrev decreases-loop : tie.decreases-loop
-decreases-loop c t b s n₀ st n = steps_in t - (steps_in s.t + n)
+decreases-loop c t b s n₀ st n = number t - (number s.t + n)
 
 -- t is a value of binary64
 held : (c : tie.Start invariant-loop decreases-loop) → T (fits binary64 c.args.t)
@@ -27,17 +27,14 @@ loop-holds : tie.Need-loop-init invariant-loop decreases-loop
 unfolding back of_bits
 loop-holds c = walk_start c.args.c c.args.self c.args.t c.requires
 
-is-due-requires : tie.Need-is-due-requires invariant-loop decreases-loop
-is-due-requires c κs = walk-compares _ _ _ _ _ _ (held c.before) c.loop.invariant
-
 -- a step more is due, so t's number is not reached
 more : (c : tie.Then1 invariant-loop decreases-loop) → due (not (lt (of_bits binary64 0) c.before.before.before.args.t)) c.before.before.loop.state.t c.before.before.before.args.t ≡ true
 more c = sym c.before.is-due.ensures ∙ c.if1.true
 
-less : (c : tie.Then1 invariant-loop decreases-loop) → steps_in c.before.before.before.args.self.t + c.before.before.loop.steps < steps_in c.before.before.before.args.t
+less : (c : tie.Then1 invariant-loop decreases-loop) → number c.before.before.before.args.self.t + c.before.before.loop.steps < number c.before.before.before.args.t
 less c = walk_more _ _ _ _ _ _ (held c.before.before.before) c.before.before.loop.invariant (more c)
 
-few : (c : tie.Then1 invariant-loop decreases-loop) → steps_in c.before.before.before.args.t ≤ 2 ^ 20
+few : (c : tie.Then1 invariant-loop decreases-loop) → number c.before.before.before.args.t ≤ 2 ^ 20
 few c = walk-few _ _ _ _ _ _ (held c.before.before.before) c.before.before.loop.invariant
 
 add-steps : tie.Need-overflow-add-steps invariant-loop decreases-loop
@@ -46,7 +43,7 @@ add-steps c = omega (arith, less c.before.before.before.before, few c.before.bef
 loop-less : tie.Need-loop-smaller invariant-loop decreases-loop
 loop-less c =
     let c1 = c.before.before.before.before in
-    falls (steps_in c1.before.before.before.args.t) (steps_in c1.before.before.before.args.self.t) c1.before.before.loop.steps (less c1)
+    falls (number c1.before.before.before.args.t) (number c1.before.before.before.args.self.t) c1.before.before.loop.steps (less c1)
   where
     falls : (k j n : ℕ) → j + n < k → k - (j + (n + 1)) < k - (j + n)
     falls k j n h = omega arith
@@ -71,7 +68,7 @@ walk-spec =
     invariant-loop
     decreases-loop
     loop-holds
-    is-due-requires
+    (λ c κs. tt)
     (λ c κs. tt)
     (λ c. search rules)
     add-steps

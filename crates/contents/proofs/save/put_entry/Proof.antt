@@ -1,0 +1,37 @@
+-- `contents::save::put_entry` meets its contract. Assumes nothing.
+use native.Mathlib.Omega.{arith}
+use mathlib.Core.Path.{◌∙◌}
+use mathlib.Core.List.{◌++◌, append_assoc}
+use Prim.Native.Nat.{◌+◌}
+use Rattle.contents.specs.LittleEndian.{le_bytes}
+use Rattle.contents.specs.Records.{entry_bytes}
+use Rattle.contents.proofs.Le.{length-le_bytes}
+use Rattle.contents.proofs.Laid.{laid_then}
+use lib.ListN.{length-append}
+use borrow.Author.Rules.{rules}
+use Rattle.contents.proofs.save.put_entry.Statement.{statement}
+use Rattle.contents.proofs.save.put_entry.Tie as tie
+
+returns : tie.Need-returns
+unfolding entry_bytes
+returns c =
+    let c₃ = c.before.before in
+    let c₂ = c₃.before.before.before.before in
+    let c₁ = c₂.before.before.before.before in
+    let a = c₁.before.before.before.args in
+    let l = a.out.now in
+    let e₂ = laid_then a.at (a.at + 4) (le_bytes 4 a.satellite) (le_bytes 4 a.offset) l (omega arith) c₁.put-u32.ensures (simp length-le_bytes) c₂.put-u322.ensures in
+    laid_then a.at (a.at + 8) (le_bytes 4 a.satellite ++ le_bytes 4 a.offset) (le_bytes 4 a.size) l (omega arith) e₂ (simp (length-append, length-le_bytes)) c₃.put-u323.ensures
+    ∙ simp append_assoc
+
+pub put-entry-spec : {M : Type 1} → statement M
+put-entry-spec =
+    tie.close
+    (tie.spec
+    (λ c κs. search rules)
+    (λ c. search rules)
+    (λ c κs. search rules)
+    (λ c. search rules)
+    (λ c κs. search rules)
+    (λ c. search rules)
+    returns)

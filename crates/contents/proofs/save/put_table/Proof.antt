@@ -1,0 +1,55 @@
+-- `contents::save::put_table` meets its contract: each part goes on where the last ended. Assumes nothing.
+use native.Mathlib.Omega.{arith}
+use Prim.Native.Nat.{◌+◌, ◌*◌, ◌-◌}
+use mathlib.Core.Path.{◌∙◌}
+use mathlib.Core.List.{◌++◌, append_assoc}
+use lib.ListN.{drop, length-append}
+use Rattle.contents.specs.Format.{entries, contents_end}
+use Rattle.contents.specs.Records.{entry_bytes}
+use Rattle.contents.specs.Table.{table, table_with}
+use Rattle.contents.proofs.Laid.{laid_then}
+use Rattle.contents.proofs.save.Laws.{length-entry_bytes, length-table, length-entries}
+use borrow.Author.Rules.{rules}
+use Rattle.contents.proofs.save.put_table.Statement.{statement}
+use Rattle.contents.proofs.save.put_table.Tie as tie
+
+returns : tie.Need-returns
+unfolding table_with
+returns c =
+    let c₃ = c.before.before in
+    let c₂ = c₃.before.before.before.before in
+    let c₁ = c₂.before.before.before.before in
+    let a = c₁.before.before.before.before.args in
+    let l = a.out.now in
+    let s = a.file.now in
+    let start = contents_end (a.n + 1 - a.old) in
+    let mid = c₁.put_entries.result in
+    let t₁ = table start (entries a.below (drop 8 s)) in
+    let new = entry_bytes a.satellite mid a.size in
+    let t₂ = table (mid + a.size) (entries (a.n - (a.below + a.old)) (drop (8 + 12 * (a.below + a.old)) s)) in
+    let e₂ = laid_then 8 (8 + 12 * a.below) t₁ new l (omega arith) c₁.put_entries.ensures.1 (simp (length-table, length-entries)) c₂.put-entry.ensures in
+    laid_then 8 (20 + 12 * a.below) (t₁ ++ new) t₂ l (omega arith) e₂ (simp (length-append, length-table, length-entries, length-entry_bytes) (omega arith)) c₃.put-entries2.ensures.1
+    ∙ simp (append_assoc, c₁.put_entries.ensures.0)
+
+pub put-table-spec : {M : Type 1} → statement M
+put-table-spec =
+    tie.close
+    (tie.spec
+    (λ c. search rules)
+    (λ c. search rules)
+    (λ c. search rules)
+    (λ c. search rules)
+    (λ c. search rules)
+    (λ c κs. search rules)
+    (λ c. search rules)
+    (λ c. search rules)
+    (λ c κs. search rules)
+    (λ c. search rules)
+    (λ c. search rules)
+    (λ c. search rules)
+    (λ c. search rules)
+    (λ c. search rules)
+    (λ c. search rules)
+    (λ c κs. search rules)
+    (λ c. search rules)
+    returns)
