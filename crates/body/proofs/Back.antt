@@ -1,14 +1,13 @@
 -- What was written is read back: each kind's numbers and state stand where they are read. Assumes nothing.
 use mathlib.Core.Path.{◌≡◌, refl, sym, ap, ◌∙◌}
-use mathlib.Core.Bool.{Bool, true, false, cond, ◌&&◌}
-use mathlib.Core.List.{List, [], ◌∷◌, ◌++◌, append-nil, append_assoc}
+use mathlib.Core.Bool.{Bool, true, false, cond}
+use mathlib.Core.List.{List, [], ◌∷◌, ◌++◌, append-nil}
 use Prim.Native.Nat.{ℕ, ◌+◌, ◌*◌}
 use native.Mathlib.Omega.{arith}
 use borrow.Author.Tests.{eq-eqb}
 use lib.Dec.{eqb, leb}
-use lib.ListN.{length, take, length-append}
+use lib.ListN.{length, take}
 use lib.Ieee.{Float}
-use Rattle.orbit.specs.declared.propagator.Resonance.{Resonance}
 use Rattle.orbit.specs.declared.propagator.Resonance.TheVariants.{OneDay, HalfDay}
 use Rattle.orbit.specs.declared.propagator.Resonant.{Resonant}
 use Rattle.orbit.specs.declared.propagator.Resonant.TheVariants.{No, Yes}
@@ -19,9 +18,8 @@ use Rattle.resonance.specs.declared.state.MaybeState.{MaybeState}
 use Rattle.resonance.specs.declared.state.MaybeState.TheVariants.{None, Some}
 use Rattle.record.proofs.Back.{back}
 use Rattle.body.specs.Floats.{float_at, floats, float_bytes}
-use Rattle.body.specs.Body.{numbers_start, number_count, state_start, size_of, leading, state_numbers, body_numbers, body_of}
-use Rattle.body.specs.Examine.{examined}
-use Rattle.body.specs.Read.{byte, kind_in, shaped, constants_in, state_at, held_at, state_in, body_read}
+use Rattle.body.specs.Body.{number_count, state_start, size_of, leading, state_numbers, body_numbers, body_of}
+use Rattle.body.specs.Read.{byte, kind_in, shaped, constants_in, held_at, body_read}
 use Rattle.body.specs.Back.{Held, Fitting, ReadBack}
 use Rattle.body.proofs.Floats.{length-float_bytes, float_bytes-append, floats-back}
 use Rattle.body.proofs.Sizes.{length-body, numbers-count}

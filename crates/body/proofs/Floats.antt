@@ -10,7 +10,7 @@ use lib.ListN.{length, take, drop, get_or, set, length-append}
 use lib.Seq.{drop-cons, drop_at, take-suc-set, drop-length}
 use lib.Ieee.{Float, binary64, of_bits, to_bits, fits}
 use lib.Ieee.Bits.{of_bits-to_bits, to_bits-lt}
-use Rattle.contents.specs.LittleEndian.{le, le_bytes, word_at}
+use Rattle.contents.specs.LittleEndian.{le, le_bytes}
 use Rattle.contents.specs.Laid.{laid, laid_inside}
 use Rattle.contents.proofs.Le.{length-le_bytes, le-le_bytes, word-inside}
 use Rattle.contents.proofs.Laid.{laid-laid, laid_nil, laid-inside}

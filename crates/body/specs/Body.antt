@@ -12,7 +12,6 @@
 use Rattle.std.specs.Prelude.{ℕ, ◌+◌, ◌*◌, Bool, cond, List, [], ◌∷◌, ◌++◌, eqb, take, Float}
 use Rattle.orbit.specs.declared.propagator.Constants.{Constants}
 use Rattle.record.specs.Record.{kind_of, numbers_of}
-use Rattle.resonance.specs.declared.state.ResonanceState.{ResonanceState}
 use Rattle.resonance.specs.declared.state.MaybeState.{MaybeState}
 use Rattle.resonance.specs.declared.state.MaybeState.TheVariants.{None, Some}
 use Rattle.body.specs.Floats.{float_bytes}

@@ -10,7 +10,7 @@ use resonance::advance::{Replayed, replay};
 use resonance::state::MaybeState;
 
 // A record that was examined.
-#[derive(Drop)]
+#[derive(Clone, Copy)]
 pub enum Body {
     Wrong, // refusal 16
     NumberNotFinite, // refusal 17

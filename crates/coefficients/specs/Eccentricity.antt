@@ -1,5 +1,5 @@
 -- The functions G of the eccentricity e₀ that the coefficients of the half-day resonance take. Definitions only. Assumes nothing.
-use Rattle.std.specs.Prelude.{Bool, true, false, cond, Float}
+use Rattle.std.specs.Prelude.{Bool, cond, Float}
 use Rattle.std.specs.Float.Ieee.{lt, le}
 use Rattle.floats.specs.Rounded.{◌⊕◌, ◌⊖◌, ◌⊗◌, ⊝◌, dec}
 use Rattle.floats.specs.Power.{sq, cubed}

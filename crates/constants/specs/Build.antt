@@ -1,5 +1,5 @@
 -- The build of an orbit's constants. Definitions only. Assumes nothing.
-use Rattle.std.specs.Prelude.{ℕ, Bool, true, false, cond, ◌&&◌, Float}
+use Rattle.std.specs.Prelude.{ℕ, Bool, cond, ◌&&◌, Float}
 use Rattle.floats.specs.Rounded.{◌⊕◌}
 use Rattle.floats.specs.Trig.{sine_of}
 use Rattle.floats.specs.declared.trig.Trig.{Trig}

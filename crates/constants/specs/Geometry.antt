@@ -1,5 +1,5 @@
 -- Solar and lunar geometry, from the right ascension of an orbit and the epoch. Definitions only. Assumes nothing.
-use Rattle.std.specs.Prelude.{ℕ, Bool, true, false, cond, ◌&&◌, Float}
+use Rattle.std.specs.Prelude.{ℕ, Bool, cond, ◌&&◌, Float}
 use Rattle.std.specs.Float.Ieee.Scale.{finite}
 use Rattle.floats.specs.Rounded.{◌⊕◌, ◌⊖◌, ◌⊗◌, ◌⊘◌, ◌rem◌, ⊝◌, dec}
 use Rattle.floats.specs.Power.{sq}
@@ -11,7 +11,6 @@ use Rattle.floats.specs.declared.root.Root.TheVariants.{Of as root, Outside as n
 use Rattle.floats.specs.declared.trig.Wave.{Wave}
 use Rattle.orbit.specs.Model.{tau}
 use Rattle.constants.specs.declared.geometry.ThirdBody.{ThirdBody}
-use Rattle.constants.specs.declared.geometry.Bodies.{Bodies}
 use Rattle.constants.specs.declared.geometry.Geometry.{Geometry}
 use Rattle.constants.specs.declared.geometry.Geometry.TheVariants.{Of, NumberNotFinite, AngleOutside, NotFinite}
 use Rattle.constants.specs.declared.geometry.Plane.{Plane}

@@ -1,5 +1,5 @@
 -- The numbers that a build is given beside the model and the orbit. Definitions only. Assumes nothing.
-use Rattle.std.specs.Prelude.{Bool, true, false, ◌&&◌, Float}
+use Rattle.std.specs.Prelude.{Bool, ◌&&◌}
 use Rattle.std.specs.Float.Ieee.Scale.{finite}
 use Rattle.floats.specs.Rounded.{◌⊕◌}
 use Rattle.constants.specs.declared.given.Given.{Given}

@@ -13,7 +13,7 @@ use orbit::model::{Geopotential, SiderealTime, epoch_to_sidereal_time};
 use orbit::propagator::{Constants, Orbit, Resonant};
 
 // The answer of a build.
-#[derive(Drop)]
+#[derive(Clone, Copy)]
 pub enum Built {
     Of(Constants),
     NumberNotFinite, // refusal 3
@@ -22,7 +22,7 @@ pub enum Built {
 }
 
 // The kind that the constants carry, unless it needs a sine that is refused.
-#[derive(Drop)]
+#[derive(Clone, Copy)]
 enum Kind {
     Of(Resonant),
     AngleOutside,

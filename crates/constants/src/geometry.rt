@@ -6,13 +6,14 @@ ghost use Rattle.constants.specs.Geometry.{days, solar_mean_anomaly, lunar_mean_
 use floats::atan::atan2;
 use floats::finite::is_finite;
 use floats::power::square;
+use floats::remainder::rem;
 use floats::root::{Root, sqrt};
 use floats::trig::{Wave, sines};
 use orbit::model::TAU;
 
 // A third body: sine and cosine of its inclination, of Ω₀ less its node, and of its argument of
 // perigee; its mean anomaly in rad.
-#[derive(Drop)]
+#[derive(Clone, Copy)]
 pub struct ThirdBody {
     pub inclination_sine: f64,
     pub inclination_cosine: f64,
@@ -24,14 +25,14 @@ pub struct ThirdBody {
 }
 
 // The fourteen numbers.
-#[derive(Drop)]
+#[derive(Clone, Copy)]
 pub struct Bodies {
     pub solar: ThirdBody,
     pub lunar: ThirdBody,
 }
 
 // The answer of a geometry call.
-#[derive(Drop)]
+#[derive(Clone, Copy)]
 pub enum Geometry {
     Of(Bodies),
     NumberNotFinite, // refusal 3
@@ -40,7 +41,7 @@ pub enum Geometry {
 }
 
 // How the Moon's orbit lies: sine and cosine of its inclination Iₗ and of its node Ωₗ.
-#[derive(Drop)]
+#[derive(Clone, Copy)]
 struct Plane {
     inclination_sine: f64,
     inclination_cosine: f64,
@@ -49,7 +50,7 @@ struct Plane {
 }
 
 // The same, unless a root is refused.
-#[derive(Drop)]
+#[derive(Clone, Copy)]
 enum Tilt {
     Of(Plane),
     NoRoot,
@@ -66,21 +67,21 @@ fn d1900(epoch: f64) -> f64
 fn solar_mean_anomaly_0(d1900: f64) -> f64
     ensures { result ≡ solar_mean_anomaly d1900 }
 {
-    (6.2565837 + 0.017201977 * d1900) % TAU
+    rem(6.2565837 + 0.017201977 * d1900, TAU)
 }
 
 // Mₗ₀ = (-1.1151842 + 0.228027132 d₁₉₀₀) rem 2π
 fn lunar_mean_anomaly_0(d1900: f64) -> f64
     ensures { result ≡ lunar_mean_anomaly d1900 }
 {
-    (-1.1151842 + 0.228027132 * d1900) % TAU
+    rem(-1.1151842 + 0.228027132 * d1900, TAU)
 }
 
 // Ωₗₑ = (4.5236020 - 9.2422029 × 10⁻⁴ d₁₉₀₀) rem 2π
 fn lunar_right_ascension_epsilon(d1900: f64) -> f64
     ensures { result ≡ lunar_epsilon d1900 }
 {
-    (4.5236020 - 9.2422029e-4 * d1900) % TAU
+    rem(4.5236020 - 9.2422029e-4 * d1900, TAU)
 }
 
 // cos Iₗ = 0.91375164 - 0.03568096 cos Ωₗₑ (the Rust's comment has Ωₗₑ without its cosine)

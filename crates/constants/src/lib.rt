@@ -1,5 +1,6 @@
 // The constants of an orbit: solar and lunar geometry, and the build. `constants` of deep_space.rs.
 #![tactic(auto)]
+
 pub mod build;
 pub mod geometry;
 pub mod given;

@@ -4,6 +4,7 @@ ghost use Rattle.std.specs.Prelude.{◌≡◌};
 ghost use Rattle.constants.specs.Longitude.{one_day_lambda_0, one_day_lambda_dot_0, half_day_lambda_0, half_day_lambda_dot_0};
 
 use crate::given::{Dots, Given};
+use floats::remainder::rem;
 use orbit::model::TAU;
 use orbit::propagator::Orbit;
 
@@ -14,8 +15,9 @@ const SIDEREAL_SPEED: f64 = 4.37526908801129966e-3;
 pub fn one_day_lambda_0(orbit_0: Orbit, sidereal_time_0: f64) -> f64
     ensures { result ≡ one_day_lambda_0 orbit_0 sidereal_time_0 }
 {
-    (orbit_0.mean_anomaly + orbit_0.right_ascension + orbit_0.argument_of_perigee - sidereal_time_0)
-        % TAU
+    let longitude = orbit_0.mean_anomaly + orbit_0.right_ascension + orbit_0.argument_of_perigee
+        - sidereal_time_0;
+    rem(longitude, TAU)
 }
 
 // λ̇₀ = p₁₅ + (k₁₄ + p₁₄) − θ̇ + (Ṁₛ + Ṁₗ) + (ω̇ₛ + ω̇ₗ) + (Ω̇ₛ + Ω̇ₗ) - n₀
@@ -33,10 +35,10 @@ pub fn one_day_lambda_dot_0(orbit_0: Orbit, given: Given, dots: Dots) -> f64
 pub fn half_day_lambda_0(orbit_0: Orbit, sidereal_time_0: f64) -> f64
     ensures { result ≡ half_day_lambda_0 orbit_0 sidereal_time_0 }
 {
-    (orbit_0.mean_anomaly + orbit_0.right_ascension + orbit_0.right_ascension
+    let longitude = orbit_0.mean_anomaly + orbit_0.right_ascension + orbit_0.right_ascension
         - sidereal_time_0
-        - sidereal_time_0)
-        % TAU
+        - sidereal_time_0;
+    rem(longitude, TAU)
 }
 
 // λ̇₀ = p₁₅ + (Ṁₛ + Ṁₗ) + 2 (p₁₄ + (Ω̇ₛ + Ω̇ₗ) - θ̇) - n₀

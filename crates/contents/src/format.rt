@@ -14,7 +14,7 @@ pub(crate) const VERSION: u16 = 1;
 pub(crate) const MOST: usize = 128;
 
 // An entry of the contents: a satellite, and its body's offset and length.
-#[derive(Drop)]
+#[derive(Clone, Copy)]
 pub struct Entry {
     pub satellite: u32,
     pub offset: u32,

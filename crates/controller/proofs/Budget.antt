@@ -1,8 +1,8 @@
 -- How much stepping asks can cost: an ask that moves T reports the steps between the two times, by demand 3 and what an advance reports. Assumes nothing.
 use mathlib.Core.Path.{◌≡◌, refl, sym, ap, ◌∙◌, subst}
-use mathlib.Core.Bool.{Bool, true, false, not, cond, ◌&&◌, false≢true}
+use mathlib.Core.Bool.{Bool, true, false, cond, ◌&&◌, false≢true}
 use mathlib.Core.List.{List, [], ◌∷◌}
-use Prim.Native.Nat.{ℕ, ◌+◌, ◌-◌, ◌≤◌, ◌^◌}
+use Prim.Native.Nat.{ℕ, ◌+◌}
 use native.Mathlib.Nat.{add-zero, zero-add, add_assoc, le_trans, le_of_eq}
 use native.Mathlib.Omega.{arith}
 use lib.Dec.{T}
@@ -24,7 +24,7 @@ use Rattle.resonance.specs.declared.advance.Advanced.TheVariants.{At, Refused as
 use Rattle.resonance.specs.declared.ask.Answer.{Answer}
 use Rattle.resonance.specs.declared.ask.Answer.TheVariants.{Refused, Reached}
 use Rattle.resonance.specs.declared.ask.StateAsked.{StateAsked}
-use Rattle.times.specs.Time.{number, back, placed, zero_time}
+use Rattle.times.specs.Time.{number, back, placed}
 use Rattle.resonance.specs.State.{fresh_of, finite_state, integrator}
 use Rattle.resonance.specs.Advance.{steps, made, agrees, advance_of, replay_of}
 use Rattle.resonance.specs.Ask.{numbers_refusal, node_of, reached_by, advanced_by, resonant_ask, kind_ask, checked_ask, state_ask_of, ask_of}
@@ -35,7 +35,6 @@ use Rattle.body.specs.Examine.{replayed}
 use Rattle.store.specs.declared.restore.Restored.{Restored}
 use Rattle.store.specs.declared.restore.Restored.TheVariants as R
 use Rattle.store.specs.Restore.{restored_from}
-use Rattle.controller.specs.declared.Controller.{Controller}
 use Rattle.controller.specs.declared.Restoring.TheVariants.{Accepted}
 use Rattle.controller.specs.Running.{asked_of, restored_by, restore_of}
 use Rattle.controller.specs.Demand.{Event, asks, saves, resets, restores, Session, time_after, after_restore, stored_time, happen, run, start, GoodBy, Good}

@@ -1,21 +1,19 @@
 -- Demand 3 by induction over the events: an ask that is not refused 1 to 8 ends at the node that the fresh state reaches (Restart), one that is leaves the state,
 -- and an accepted restore brings the state that its own steps give, since floats read from bytes are equal where their bits are. Assumes nothing.
 use mathlib.Core.Path.{◌≡◌, refl, sym, ap, ◌∙◌, subst}
-use Prim.Native.Nat.{ℕ, zero, suc, ◌≤◌, ◌^◌}
+use Prim.Native.Nat.{ℕ}
 use mathlib.Core.Bool.{Bool, true, false, not, cond, ◌&&◌, false≢true}
 use mathlib.Core.List.{List, [], ◌∷◌}
 use lib.Dec.{T, eqb, eqb→eq, lit≤}
 use lib.Ieee.{Float, binary64, fits, to_bits, of_bits}
 use lib.Ieee.Bits.{of_bits-to_bits, of_bits-fits}
 use lib.Ieee.Fits.{add-fits, and_l, and_r}
-use lib.Ieee.Scale.{finite}
 use Rattle.floats.specs.Value.{same_bits, at_most, negative, is_zero}
 use Rattle.orbit.specs.declared.propagator.Resonance.{Resonance}
 use Rattle.orbit.specs.declared.propagator.Resonant.{Resonant}
 use Rattle.orbit.specs.declared.propagator.Resonant.TheVariants.{No, Yes}
 use Rattle.orbit.specs.declared.propagator.Constants.{Constants}
 use Rattle.elements.specs.declared.elements.Question.{Question}
-use Rattle.elements.specs.declared.elements.Outcome.{Outcome}
 use Rattle.times.specs.declared.time.Fault.{Fault}
 use Rattle.times.specs.declared.time.Checked.{Checked}
 use Rattle.times.specs.declared.time.Checked.TheVariants.{Passed, Refused as refusedCheck}
@@ -26,11 +24,10 @@ use Rattle.resonance.specs.declared.state.MaybeState.TheVariants.{None, Some}
 use Rattle.resonance.specs.declared.ask.Answer.{Answer}
 use Rattle.resonance.specs.declared.ask.Answer.TheVariants.{Refused, Reached}
 use Rattle.resonance.specs.declared.ask.StateAsked.{StateAsked}
-use Rattle.resonance.specs.declared.ask.Asked.{Asked}
 use Rattle.times.specs.Time.{limit, number, back, zero_time, placed, multiple, refusal}
 use Rattle.resonance.specs.State.{fresh_of, fresh_by, fresh, finite_state, same_state, step_of, integrator}
 use Rattle.resonance.specs.Advance.{steps, agrees, replay_of}
-use Rattle.resonance.specs.Ask.{numbers_refusal, given_back, advanced_by, resonant_ask, kind_ask, checked_ask, plain_ask, checked_none, state_ask_of, none_ask_of, held, ask_of}
+use Rattle.resonance.specs.Ask.{numbers_refusal, given_back, advanced_by, resonant_ask, kind_ask, checked_ask, plain_ask, checked_none, state_ask_of, none_ask_of, ask_of}
 use Rattle.record.specs.Record.{constants_of, resonant_of, one_day_of, half_day_of}
 use Rattle.body.specs.Floats.{float_at, floats}
 use Rattle.body.specs.Body.{state_start}
@@ -44,7 +41,7 @@ use Rattle.store.specs.Restore.{restored_from}
 use Rattle.controller.specs.Running.{restored_by}
 use Rattle.controller.specs.Demand.{Event, asks, saves, resets, restores, Session, time_after, after_restore, stored_time, happen, run, start, GoodBy, Good, Demand3}
 use Rattle.times.proofs.Accepted.{accepted-most, number-most}
-use Rattle.resonance.proofs.Steps.{no-state, Moved, step_is, steps-keep}
+use Rattle.resonance.proofs.Steps.{no-state, step_is, steps-keep}
 use Rattle.resonance.proofs.Walk.{advance-refused}
 use Rattle.controller.proofs.Restart.{OnNode, resonant}
 

@@ -1,17 +1,16 @@
 -- Two states of one orbit answer alike: a state that j steps reach, asked at t, goes on to the same last node as the fresh state does, since steps compose and
 -- an ask that is not refused 7 goes in the direction of the steps made. Assumes nothing.
 use mathlib.Core.Path.{◌≡◌, refl, sym, ap, ◌∙◌, subst}
-use Prim.Native.Nat.{ℕ, zero, suc, ◌+◌, ◌-◌, ◌*◌, ◌/◌, ◌%◌, ◌^◌, ◌≤◌, ◌<◌}
-use native.Mathlib.Nat.{le_trans, le_of_eq, zero-add, mul_comm, mul_assoc, mul-le-mul_right, mul-mod_left, mul-pos, zero-mul, zero-lt-suc}
+use Prim.Native.Nat.{ℕ, zero, suc, ◌+◌, ◌-◌, ◌*◌, ◌%◌, ◌^◌, ◌≤◌, ◌<◌}
+use native.Mathlib.Nat.{le_trans, le_of_eq, zero-add, mul_assoc, mul-le-mul_right, mul-mod_left, mul-pos, zero-mul, zero-lt-suc}
 use native.Mathlib.Omega.{arith}
-use mathlib.Core.Bool.{Bool, true, false, not, ◌&&◌, cond, true≢false, false≢true}
+use mathlib.Core.Bool.{Bool, true, false, not, ◌&&◌, cond, true≢false}
 use lib.Dec.{T, leb, eqb, le→leb, eqb→eq, lit<}
-use lib.IntN.{ℤ}
 use lib.Ieee.{Float, nan, inf, fin, up, down}
 use lib.Ieee.Bits.{is_true}
 use lib.Ieee.Fits.{and_i, and_l, and_r, eq→eqb, down_pos}
 use lib.Ieee.Scale.{finite}
-use Rattle.floats.specs.Value.{at_most, negative, is_zero}
+use Rattle.floats.specs.Value.{at_most}
 use Rattle.orbit.specs.Propagator.{finite_constants, finite_orbit, finite_resonance, finite_resonant}
 use Rattle.orbit.specs.Model.{finite_geopotential}
 use Rattle.orbit.specs.declared.propagator.Resonance.{Resonance}
@@ -35,12 +34,12 @@ use Rattle.resonance.specs.declared.ask.Answer.TheVariants.{Refused, Reached}
 use Rattle.resonance.specs.declared.ask.StateAsked.{StateAsked}
 use Rattle.times.specs.Time.{limit, number, back, placed, onward, refusal}
 use Rattle.resonance.specs.State.{fresh_of, finite_state, integrator}
-use Rattle.resonance.specs.Advance.{steps, taken, advance_of}
+use Rattle.resonance.specs.Advance.{steps, taken}
 use Rattle.resonance.specs.Ask.{refusal_by, numbers_refusal, node_of, reached_by, advanced_by, resonant_ask, kind_ask, checked_ask, state_ask_of}
 use Rattle.controller.specs.Restart.{Reaches, NotSeven, SameAnswer, Restart}
 use Rattle.times.proofs.Placed.{At, sign_of, at-num, at-number}
 use Rattle.times.proofs.Accepted.{accepted-at, accepted-le}
-use Rattle.resonance.proofs.Steps.{Moved, step_is, steps_on, steps-place, steps-keep}
+use Rattle.resonance.proofs.Steps.{step_is, steps_on, steps-place, steps-keep}
 use Rattle.resonance.proofs.Walk.{advance-refused, advance-go}
 
 -- ---- a state that steps reach stands at a time that it may have
@@ -190,6 +189,18 @@ module _ (c : Constants) (lambda-0 lambda-dot-0 theta_0 : Float) (r : Resonance)
   n = c.orbit_0.mean_motion
 
   ends : (a b d e f g h k m p o z : Bool) → T (a && b && d && e && f && g && h && k && m && p && o && z) → T b × T z
+  ends false b d e f g h k m p o z t = elim t [ ]
+  ends true false d e f g h k m p o z t = elim t [ ]
+  ends true true false e f g h k m p o z t = elim t [ ]
+  ends true true true false f g h k m p o z t = elim t [ ]
+  ends true true true true false g h k m p o z t = elim t [ ]
+  ends true true true true true false h k m p o z t = elim t [ ]
+  ends true true true true true true false k m p o z t = elim t [ ]
+  ends true true true true true true true false m p o z t = elim t [ ]
+  ends true true true true true true true true false p o z t = elim t [ ]
+  ends true true true true true true true true true false o z t = elim t [ ]
+  ends true true true true true true true true true true false z t = elim t [ ]
+  ends true true true true true true true true true true true false t = elim t [ ]
   ends true true true true true true true true true true true true t = (tt, tt)
 
   fresh-finite : T (finite_constants c) → T (finite_state (fresh_of n lambda-0))

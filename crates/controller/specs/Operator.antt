@@ -1,5 +1,5 @@
 -- The operator's question: does the dish point where it would have pointed without the restart? Statements only. Assumes nothing.
-use Rattle.std.specs.Prelude.{ℕ, ◌^◌, ◌<◌, ◌≡◌, List, length}
+use Rattle.std.specs.Prelude.{ℕ, ◌^◌, ◌<◌, ◌≡◌, List}
 use Rattle.orbit.specs.declared.propagator.Constants.{Constants}
 use Rattle.elements.specs.declared.elements.Question.{Question}
 use Rattle.elements.specs.declared.elements.Outcome.{Outcome}
@@ -15,7 +15,7 @@ use Rattle.controller.specs.declared.Reply.{Reply}
 use Rattle.controller.specs.declared.Restoring.TheVariants.{Accepted}
 use Rattle.controller.specs.Running.{asked_of, kept, restore_of}
 use Rattle.controller.specs.Restart.{NotSeven}
-use Rattle.controller.specs.Demand.{Event, Session, run, start}
+use Rattle.controller.specs.Demand.{Event, run, start}
 
 -- Save, restart, restore: a controller v of anything that restores what a controller w has saved is w, constants and state to the bit
 abbrev pub Resumes : Type 0

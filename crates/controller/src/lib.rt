@@ -1,5 +1,6 @@
 // The running controller: constants and state in force as one value. Only its methods change it.
 #![tactic(auto)]
+
 ghost use Rattle.std.specs.Prelude.{◌≡◌, length};
 ghost use Rattle.store.specs.Save.{stored, stored_file, output_after};
 ghost use Rattle.controller.specs.Running.{number as restoring_number, started, asked_of, restored_by, restore_of};
@@ -12,14 +13,14 @@ use store::restore::{Restored, restore};
 use store::save::{Stored, save};
 
 // Constants and state in force. A non-resonant orbit has no state.
-#[derive(Drop)]
+#[derive(Clone, Copy)]
 pub struct Controller {
     constants: Constants,
     state: MaybeState,
 }
 
 // The answer of an ask, the controller after it, and the steps made.
-#[derive(Drop)]
+#[derive(Clone, Copy)]
 pub struct Reply {
     pub answer: Answer,
     pub controller: Controller,
@@ -27,7 +28,7 @@ pub struct Reply {
 }
 
 // Whether a restore was accepted.
-#[derive(Drop)]
+#[derive(Clone, Copy)]
 pub enum Restoring {
     Accepted,
     FileWrong, // refusal 14
@@ -54,7 +55,7 @@ impl Restoring {
 }
 
 // The answer of a restore, the controller after it, and the steps of the replay.
-#[derive(Drop)]
+#[derive(Clone, Copy)]
 pub struct Resumed {
     pub answer: Restoring,
     pub controller: Controller,

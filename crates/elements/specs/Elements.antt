@@ -1,5 +1,5 @@
 -- The elements of an orbit at a time from p28 and p29, with refusals 9 to 12, as the Rust groups them. Definitions only. Assumes nothing.
-use Rattle.std.specs.Prelude.{ℕ, List, [], ◌∷◌, Bool, true, false, cond, ◌&&◌, Float}
+use Rattle.std.specs.Prelude.{ℕ, List, [], ◌∷◌, Bool, true, cond, ◌&&◌, Float}
 use Rattle.std.specs.Float.Ieee.{lt, le}
 use Rattle.std.specs.Float.Ieee.Scale.{finite}
 use Rattle.floats.specs.Rounded.{◌⊕◌, ◌⊖◌, ◌⊗◌, ◌⊘◌, ⊝◌, ◌rem◌, dec, magnitude}
@@ -13,8 +13,6 @@ use Rattle.floats.specs.declared.root.Root.{Root}
 use Rattle.floats.specs.declared.root.Root.TheVariants.{Of as root, Outside}
 use Rattle.orbit.specs.Model.{pi, tau}
 use Rattle.orbit.specs.Propagator.{finite_orbit}
-use Rattle.orbit.specs.declared.model.Geopotential.{Geopotential}
-use Rattle.orbit.specs.declared.propagator.Orbit.{Orbit}
 use Rattle.orbit.specs.declared.propagator.Constants.{Constants}
 use Rattle.elements.specs.declared.elements.Periodic.{Periodic}
 use Rattle.elements.specs.declared.elements.Question.{Question}

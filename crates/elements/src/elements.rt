@@ -4,7 +4,7 @@ ghost use Rattle.elements.specs.Elements.{inclination_at, high as high_of, p30_o
 
 use floats::atan::atan2;
 use floats::finite::{is_finite, magnitude};
-use floats::remainder::rem_euclid;
+use floats::remainder::{rem, rem_euclid};
 use floats::root::{Root, three_halves};
 use floats::trig::{Wave, sines};
 use orbit::model::{PI, TAU};
@@ -12,7 +12,7 @@ use orbit::propagator::{Constants, Orbit};
 
 // The five numbers of the Sun or the Moon at a time. `delta_mean_motion` has the Rust's name: it is
 // a change of mean anomaly, in rad.
-#[derive(Drop)]
+#[derive(Clone, Copy)]
 pub struct Periodic {
     pub delta_eccentricity: f64,
     pub delta_inclination: f64,
@@ -22,7 +22,7 @@ pub struct Periodic {
 }
 
 // What is asked: the time in minutes since epoch, p22 and p23, and the lunisolar numbers.
-#[derive(Drop)]
+#[derive(Clone, Copy)]
 pub struct Question {
     pub t: f64,
     pub p22: f64,
@@ -32,7 +32,7 @@ pub struct Question {
 }
 
 // The orbit at the time asked, and the numbers that the Rust hands on with it.
-#[derive(Drop)]
+#[derive(Clone, Copy)]
 pub struct Elements {
     pub orbit: Orbit,
     pub a: f64,
@@ -44,7 +44,7 @@ pub struct Elements {
 }
 
 // The elements, or why there are none.
-#[derive(Drop)]
+#[derive(Clone, Copy)]
 pub enum Outcome {
     Of(Elements),
     AngleRefused, // refusal 9
@@ -54,7 +54,7 @@ pub enum Outcome {
 }
 
 // Node and perigee at the time asked, and whether every angle on the way is answered.
-#[derive(Drop)]
+#[derive(Clone, Copy)]
 struct Plane {
     right_ascension: f64,
     argument_of_perigee: f64,
@@ -62,7 +62,7 @@ struct Plane {
 }
 
 // What is known of the orbit before its size is: sin I and cos I too.
-#[derive(Drop)]
+#[derive(Clone, Copy)]
 struct Shape {
     inclination: f64,
     right_ascension: f64,
@@ -129,7 +129,7 @@ fn low_node(afspc_compatibility_mode: bool, p22: f64) -> f64
     if afspc_compatibility_mode {
         return rem_euclid(p22, TAU);
     }
-    p22 % TAU
+    rem(p22, TAU)
 }
 
 // ω = p₂₃ + (pₛ₄ + pₗ₄) + cos I ((p₂₂ rem 2π) - Ω) - (δIₛ + δIₗ) (p₂₂ mod or rem 2π) sin I
@@ -137,7 +137,7 @@ fn low(afspc_compatibility_mode: bool, q: Question, w: Wave) -> Plane
     ensures { result ≡ low_of afspc_compatibility_mode q w }
 {
     let node = sines(q.p22);
-    let turn = q.p22 % TAU;
+    let turn = rem(q.p22, TAU);
     let right_ascension = near_turn(p30(q, w, node), turn);
     let last = low_node(afspc_compatibility_mode, q.p22);
     Plane {

@@ -45,6 +45,8 @@ Big (inf t) s = t ≡ s
 Big (fin t m e) s = (t ≡ s) × (0 < m)
 
 pub big-of-value : (x : Float) (s : Bool) (a c : ℕ) → HasValue x s a c → 0 < a → Big x s
+big-of-value nan s a c v A = elim v [ ]
+big-of-value (inf _) s a c v A = elim v [ ]
 big-of-value (fin t m e) s a c v A = (v.0, first_pos m (up e) (first_pos (m * up e) c (subst (λ (z : ℕ). 0 < z) (sym v.1) (mul-pos A (down_pos e)))))
 
 units-big : (s : Bool) (q k : ℕ) → 0 < q → Big (units binary64 s q k) s
@@ -73,6 +75,9 @@ rounded-big s num den D h =
 -- a value that is not negative is not at most one below zero; one above zero is not at most a value that is not above it
 pub not-le-below : (x y : Float) (a c : ℕ) → HasValue x false a c → Big y true → le x y ≡ false
 unfolding le
+not-le-below nan y a c v w = elim v [ ]
+not-le-below (inf _) y a c v w = elim v [ ]
+not-le-below (fin s m e) nan a c v w = elim w [ ]
 not-le-below (fin s m e) (inf t) a c v w = ap (λ (z : Bool). not z || false) w
 not-le-below (fin s m e) (fin t n d) a c v w =
     le-fin s m e t n d
@@ -81,6 +86,11 @@ not-le-below (fin s m e) (fin t n d) a c v w =
 
 pub above-not-le : (y x : Float) (s : Bool) (a c : ℕ) → 0 < c → HasValue x s a c → (s ≡ false → a ≡ 0) → Big y false → le y x ≡ false
 unfolding le
+above-not-le nan _ s' a c C v z w = elim w [ ]
+above-not-le (inf t) nan s' a c C v z w = elim v [ ]
+above-not-le (inf t) (inf _) s' a c C v z w = elim v [ ]
+above-not-le (fin t n d) nan s' a c C v z w = elim v [ ]
+above-not-le (fin t n d) (inf _) s' a c C v z w = elim v [ ]
 above-not-le (inf t) (fin s m e) s' a c C v z w = ap (λ (u : Bool). u || false) w
 above-not-le (fin t n d) (fin s m e) s' a c C v z w =
     le-fin t n d s m e
@@ -95,6 +105,7 @@ above-not-le (fin t n d) (fin s m e) s' a c C v z w =
 
 pub big-not-zero : (y : Float) (s : Bool) → Big y s → eq y (fin false 0 (pos 0)) ≡ false
 unfolding eq
+big-not-zero nan s w = elim w [ ]
 big-not-zero (inf t) s w = refl
 big-not-zero (fin t m e) s w = unfold eq in (zero_test (fin t m e) t (m * up e) (down e) (down_pos e) (refl, refl) ∙ ne_eqb (m * up e) 0 (λ (h : m * up e ≡ 0). lt_irrefl 0 (subst (λ (z : ℕ). 0 < z) h (mul-pos w.1 (up_pos e)))))
 
@@ -142,6 +153,10 @@ leb-not a b = go (leb a b) (ltb b a) refl refl
 -- of two numbers that are no NaN, the one is not below the other exactly if the other is at most the one
 pub not-lt : (x y : Float) → T (not (is_nan x)) → T (not (is_nan y)) → not (lt x y) ≡ le y x
 unfolding lt eq le is_nan
+not-lt nan y p q = elim p [ ]
+not-lt (inf false) nan p q = elim q [ ]
+not-lt (inf true) nan p q = elim q [ ]
+not-lt (fin s m e) nan p q = elim q [ ]
 not-lt (inf true) (inf true) p q = refl
 not-lt (inf true) (inf false) p q = refl
 not-lt (inf false) (inf true) p q = refl
@@ -181,6 +196,10 @@ magnitude-sized true m e = go (ltb 0 (m * up e * 1 + 0 * down e)) refl
 
 -- the order of two magnitudes is that of the sizes
 pub sizes : (x y : Float) → T (finite x) → T (finite y) → le (magnitude x) (magnitude y) ≡ not (shorter y x)
+sizes nan y p q = elim p [ ]
+sizes (inf _) y p q = elim p [ ]
+sizes (fin s m e) nan p q = elim q [ ]
+sizes (fin s m e) (inf _) p q = elim q [ ]
 sizes (fin s m e) (fin t n d) p q =
     let a = magnitude-sized s m e in
     let b = magnitude-sized t n d in

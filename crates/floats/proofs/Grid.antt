@@ -8,7 +8,7 @@ use mathlib.Core.Bool.{Bool, true, false, not, ◌&&◌}
 use lib.IntN.{ℤ, pos, negsuc}
 use lib.Dec.{T, leb, ltb, eqb, leb→le, ltb→lt, nltb→le, lit≤}
 use lib.Pow.{pow-add, pow_pos, pow_mono, pow-lt}
-use lib.Ieee.{Float, nan, inf, fin, binary64, up, down, size, fits, of_bits, to_bits}
+use lib.Ieee.{Float, nan, inf, fin, binary64, up, down, size, fits, of_bits}
 use lib.Ieee.Fits.{and_l, and_r, up_pos, down_pos}
 use lib.Ieee.Bits.{of_bits-to_bits}
 use lib.Ieee.Exact.{HasValue}

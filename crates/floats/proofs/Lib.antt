@@ -4,3 +4,4 @@ pub mod Grid
 pub mod Rounding
 pub mod Values
 pub mod Exact
+pub mod Units

@@ -1,8 +1,8 @@
 -- A comparison of floats as one of the fractions that they equal, and the tests of finiteness and sign by comparisons. Assumes nothing.
 use mathlib.Core.Path.{◌≡◌, refl, sym, ap, ap₂, ◌∙◌, subst}
-use Prim.Native.Nat.{ℕ, zero, suc, ◌+◌, ◌-◌, ◌*◌, ◌/◌, ◌%◌, ◌^◌, ◌≤◌, ◌<◌}
-use native.Mathlib.Nat.{le_refl, zero-lt-suc, sub_self, le_trans, le_of_eq, mul_comm, mul_assoc, mul_left_comm, mul_right_comm, mul-le-mul_right, le_of_mul-le-mul_right, mul-pos, zero-mul, add-mul, mul-one, mul-mul-mul_comm, eq-zero-or-pos, lt_irrefl}
-use mathlib.Core.Logic.{◌⊎◌, inl, inr}
+use Prim.Native.Nat.{ℕ, zero, suc, ◌+◌, ◌-◌, ◌*◌, ◌^◌, ◌≤◌, ◌<◌}
+use native.Mathlib.Nat.{le_refl, zero-lt-suc, sub_self, le_trans, le_of_eq, mul_comm, mul_assoc, mul_left_comm, mul-le-mul_right, le_of_mul-le-mul_right, mul-pos, zero-mul, add-mul, mul-one, mul-mul-mul_comm, eq-zero-or-pos, lt_irrefl}
+use mathlib.Core.Logic.{inl, inr}
 use native.Mathlib.Omega.{arith}
 use mathlib.Core.Bool.{Bool, true, false, not, ◌&&◌, ◌||◌, cond, beq, true≢false, false≢true}
 use lib.IntN.{ℤ, pos}
@@ -11,8 +11,8 @@ use lib.Ieee.{Float, nan, inf, fin, binary64, up, down, below, level, lt, le, eq
 use lib.Ieee.Fits.{up_pos, down_pos, eq→eqb}
 use lib.Ieee.Exact.{HasValue, round_exact}
 use lib.Ieee.Scale.{finite}
-use Rattle.floats.specs.Value.{at_most, negative, is_zero}
-use borrow.Author.Tests.{ltb-true, ltb-false, leb-true, leb-false, eqb-true, eqb-false, lt-ltb, le-ltb, le-leb, lt-leb, eq-eqb, ne_eqb}
+use Rattle.floats.specs.Value.{at_most, negative}
+use borrow.Author.Tests.{ltb-true, ltb-false, leb-true, leb-false, eqb-true, eqb-false, lt-ltb, le-ltb, ne_eqb}
 
 -- two tests that each follow from the other
 pub same : (x y : Bool) → (T x → T y) → (T y → T x) → x ≡ y
@@ -73,15 +73,15 @@ always a b = go (ltb 0 (a + b)) (eqb a b) (eqb a 0) refl refl refl
     go false false z p q r = absurd (eqb-false a b q (omega (arith, ltb-false 0 (a + b) p)))
     go false true false p q r = absurd (eqb-false a 0 r (omega (arith, ltb-false 0 (a + b) p)))
 
-signed_le : (s t : Bool) (a b : ℕ) → (below s a t b || level s a t b) ≡ signed_le s a t b
-signed_le false false a b = le_is a b (eqb a 0)
-signed_le true true a b = ap (λ (w : Bool). ltb b a || (w && (true || eqb a 0))) (eqb_swap a b) ∙ le_is b a (eqb a 0)
-signed_le false true a b = both_zero a b
-signed_le true false a b = always a b
+signed_le-is : (s t : Bool) (a b : ℕ) → (below s a t b || level s a t b) ≡ signed_le s a t b
+signed_le-is false false a b = le_is a b (eqb a 0)
+signed_le-is true true a b = ap (λ (w : Bool). ltb b a || (w && (true || eqb a 0))) (eqb_swap a b) ∙ le_is b a (eqb a 0)
+signed_le-is false true a b = both_zero a b
+signed_le-is true false a b = always a b
 
 pub le-fin : (s : Bool) (m : ℕ) (e : ℤ) (t : Bool) (n : ℕ) (d : ℤ) → le (fin s m e) (fin t n d) ≡ signed_le s (m * up e * down d) t (n * up d * down e)
 unfolding le
-le-fin s m e t n d = signed_le s t (m * up e * down d) (n * up d * down e)
+le-fin s m e t n d = signed_le-is s t (m * up e * down d) (n * up d * down e)
 
 -- the same order at another scale
 scaled : (a b a' b' k l : ℕ) → 0 < k → 0 < l → a * k ≡ a' * l → b * k ≡ b' * l → a ≤ b → a' ≤ b'
@@ -100,6 +100,10 @@ signed-scaled true true a b a' b' k l K L p q = leb-scaled b a b' a' k l K L q p
 
 -- the order of two floats by any fractions a / c and b / d that they equal
 pub le-values : (x y : Float) (s : Bool) (a c : ℕ) (t : Bool) (b d : ℕ) → 0 < c → 0 < d → HasValue x s a c → HasValue y t b d → le x y ≡ signed_le s (a * d) t (b * c)
+le-values nan y s a c t b d C D v w = elim v [ ]
+le-values (inf _) y s a c t b d C D v w = elim v [ ]
+le-values (fin s' m e) nan s a c t b d C D v w = elim w [ ]
+le-values (fin s' m e) (inf _) s a c t b d C D v w = elim w [ ]
 le-values (fin s' m e) (fin t' n g) s a c t b d C D v w =
     le-fin s' m e t' n g
     ∙ ap₂ (λ (x y : Bool). signed_le x (m * up e * down g) y (n * up g * down e)) v.0 w.0
@@ -158,6 +162,8 @@ level-zero false false = refl
 
 pub zero_test : (x : Float) (s : Bool) (a c : ℕ) → 0 < c → HasValue x s a c → eq x (fin false 0 (pos 0)) ≡ eqb a 0
 unfolding eq
+zero_test nan s a c C v = elim v [ ]
+zero_test (inf _) s a c C v = elim v [ ]
 zero_test (fin t m e) s a c C v =
     let p : m * up e * 1 * c ≡ a * down e = ap (λ (x : ℕ). x * c) (mul-one (m * up e)) ∙ v.1 in
     rw (zero-mul (down e)) (level-zero t (eqb (m * up e * 1) 0) ∙ zero-iff (m * up e * 1) c a (down e) C (down_pos e) p)

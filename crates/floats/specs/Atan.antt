@@ -1,6 +1,6 @@
 -- The angle of the point (x, y), Rust's y.atan2(x), as rounded operations: the recipe is the definition (docs/FLOATS.md has it in numbered steps).
 -- Definitions only. Assumes nothing.
-use Rattle.std.specs.Prelude.{Bool, true, false, not, cond, ◌&&◌, Float}
+use Rattle.std.specs.Prelude.{cond, ◌&&◌, Float}
 use Rattle.std.specs.Float.{nan}
 use Rattle.std.specs.Float.Ieee.{lt, eq}
 use Rattle.std.specs.Float.Ieee.Scale.{finite}

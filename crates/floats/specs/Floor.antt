@@ -1,5 +1,5 @@
 -- The greatest whole number that is not above x. Definitions and a statement. Assumes nothing.
-use Rattle.std.specs.Prelude.{ℕ, zero, suc, ◌+◌, ◌-◌, ◌*◌, ◌/◌, ◌%◌, Bool, true, false, cond, ◌≡◌, T, eqb, Float}
+use Rattle.std.specs.Prelude.{zero, suc, ◌+◌, ◌-◌, ◌*◌, ◌/◌, ◌%◌, Bool, true, false, ◌≡◌, T, eqb, Float}
 use Rattle.std.specs.Float.{nan, inf, fin, binary64}
 use Rattle.std.specs.Float.Ieee.{up, down, round, le, fits}
 use Rattle.std.specs.Float.Ieee.Scale.{finite}

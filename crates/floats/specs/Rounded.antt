@@ -1,6 +1,6 @@
 -- A sign for each rounded operation on 64-bit floats, decimals as floats, and the magnitude. `finite`, `to_bits`, `of_bits` and the comparisons are the library's.
 -- Definitions only. Assumes nothing.
-use Rattle.std.specs.Prelude.{ℕ, ◌^◌, Bool, true, false, cond, Float}
+use Rattle.std.specs.Prelude.{ℕ, ◌^◌, false, cond, Float}
 use Rattle.std.specs.Float.{binary64}
 use Rattle.std.specs.Float.Ieee.{add, sub, mul, div, rem as fmod, neg, round, lt}
 

@@ -1,5 +1,5 @@
 -- What a float is as a number: its sign bit, whether it is zero, and its size over whole numbers. Definitions only. Assumes nothing.
-use Rattle.std.specs.Prelude.{ℕ, ◌*◌, ◌/◌, ◌^◌, Bool, true, false, leb, ltb, eqb, Float, ℤ}
+use Rattle.std.specs.Prelude.{ℕ, ◌*◌, ◌/◌, ◌^◌, Bool, false, leb, ltb, eqb, Float, ℤ}
 use Rattle.std.specs.Float.{nan, inf, fin, binary64}
 use Rattle.std.specs.Float.Ieee.{up, down, to_bits}
 

@@ -9,20 +9,20 @@ use crate::finite::magnitude;
 const ANGLE_LIMIT: f64 = 1048576.0;
 
 // Sine and cosine of one angle, and whether the angle is answered.
-#[derive(Drop)]
+#[derive(Clone, Copy)]
 pub struct Wave {
     pub sin: f64,
     pub cos: f64,
     pub ok: bool,
 }
 
-#[derive(Drop)]
+#[derive(Clone, Copy)]
 pub enum SinCos {
     Of { sin: f64, cos: f64 },
     Outside, // refusal 9: the angle is beyond the limit, or a NaN
 }
 
-#[derive(Drop)]
+#[derive(Clone, Copy)]
 pub enum Trig {
     Of(f64),
     Outside, // refusal 9

@@ -1,6 +1,7 @@
 // The ask with the state lent and changed in place: the Rust's `&mut self`. The work is by value, in
-// `ask_in_parts`; `ask_in_place` reads the state lent, stores the one returned, and is proved by hand.
+// `ask_in_parts`; `ask_in_place` reads the state lent and stores the one returned.
 #![tactic(auto)]
+
 ghost use Rattle.std.specs.Prelude.{◌≡◌};
 ghost use Rattle.resonance.specs.Ask.{state_ask_of};
 ghost use Rattle.in_place.specs.InPlace.{answered, in_parts};
@@ -11,14 +12,14 @@ use resonance::ask::Answer;
 use resonance::state::ResonanceState;
 
 // The answer and the steps made: what an ask returns beside the state.
-#[derive(Drop)]
+#[derive(Clone, Copy)]
 pub struct InPlace {
     pub answer: Answer,
     pub steps: u32,
 }
 
 // An ask in two parts: the state to store, and what is returned.
-#[derive(Drop)]
+#[derive(Clone, Copy)]
 struct Parts {
     state: ResonanceState,
     returned: InPlace,

@@ -1,5 +1,5 @@
 -- The class of an orbit of mean motion n and eccentricity e. Definitions only. Assumes nothing.
-use Rattle.std.specs.Prelude.{Bool, true, false, cond, ◌&&◌, Float}
+use Rattle.std.specs.Prelude.{Bool, cond, ◌&&◌, Float}
 use Rattle.std.specs.Float.Ieee.{lt, le}
 use Rattle.floats.specs.Rounded.{dec}
 use Rattle.orbit.specs.declared.class.Class.{Class}

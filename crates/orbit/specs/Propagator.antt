@@ -1,5 +1,5 @@
 -- That every number of an orbit, of a resonance or of the constants is finite, in the order of their fields. Definitions only. Assumes nothing.
-use Rattle.std.specs.Prelude.{Bool, true, false, ◌&&◌, Float}
+use Rattle.std.specs.Prelude.{Bool, ◌&&◌}
 use Rattle.std.specs.Float.Ieee.Scale.{finite}
 use Rattle.orbit.specs.Model.{finite_geopotential}
 use Rattle.orbit.specs.declared.propagator.Orbit.{Orbit}

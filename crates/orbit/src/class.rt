@@ -3,7 +3,7 @@ ghost use Rattle.std.specs.Prelude.{◌≡◌};
 ghost use Rattle.orbit.specs.Class.{one_day, half_day, class_of};
 
 // The three classes: an orbit is resonant in two of them.
-#[derive(Drop)]
+#[derive(Clone, Copy)]
 pub enum Class {
     NonResonant,
     OneDay,

@@ -14,7 +14,7 @@ pub const PI: f64 = 3.14159265358979323846264338327950288;
 pub const TAU: f64 = 2.0 * PI;
 
 // aₑ in km, kₑ in earth radii³ᐟ² min⁻¹, and the zonal harmonics J₂, J₃, J₄.
-#[derive(Drop)]
+#[derive(Clone, Copy)]
 pub struct Geopotential {
     pub ae: f64,
     pub ke: f64,
@@ -63,14 +63,14 @@ impl Geopotential {
 }
 
 // Which of the two expressions gives the sidereal time: the Rust takes a function there.
-#[derive(Drop)]
+#[derive(Clone, Copy)]
 pub enum SiderealTime {
     Iau,
     Afspc,
 }
 
 // The answer of a sidereal time called alone.
-#[derive(Drop)]
+#[derive(Clone, Copy)]
 pub enum Sidereal {
     Of(f64),
     EpochNotFinite, // refusal 3

@@ -9,7 +9,6 @@ use Rattle.orbit.specs.declared.model.Sidereal.TheVariants.{Of as theta, EpochNo
 use Rattle.orbit.specs.declared.propagator.Orbit.{Orbit}
 use Rattle.record.specs.Record.{kind_of, numbers_of, place, constants_of}
 use Rattle.constants.specs.Build.{built_of, number as buildNumber}
-use Rattle.constants.specs.declared.geometry.ThirdBody.{ThirdBody}
 use Rattle.constants.specs.declared.geometry.Geometry.{Geometry}
 use Rattle.constants.specs.declared.geometry.Geometry.TheVariants.{Of as bodies, NumberNotFinite as no-bodies-3, AngleOutside as no-bodies-9, NotFinite as no-bodies-13}
 use Rattle.constants.specs.declared.given.Given.{Given}
@@ -17,7 +16,6 @@ use Rattle.constants.specs.declared.given.Dots.{Dots}
 use Rattle.constants.specs.declared.build.Built.{Built}
 use Rattle.constants.specs.declared.build.Built.TheVariants.{Of as built, NumberNotFinite as no-build-3, AngleOutside as no-build-9, NotFinite as no-build-13}
 use Rattle.elements.specs.Elements.{number as outcomeNumber}
-use Rattle.elements.specs.declared.elements.Periodic.{Periodic}
 use Rattle.elements.specs.declared.elements.Question.{Question}
 use Rattle.elements.specs.declared.elements.Elements.{Elements}
 use Rattle.elements.specs.declared.elements.Outcome.{Outcome}

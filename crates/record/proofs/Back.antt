@@ -1,10 +1,10 @@
 -- Constants come back from their numbers: each place holds its field, by computation for each kind. Assumes nothing.
-use mathlib.Core.Path.{◌≡◌, refl, ap}
+use mathlib.Core.Path.{◌≡◌, refl}
 use Rattle.orbit.specs.declared.propagator.Resonance.TheVariants.{OneDay, HalfDay}
 use Rattle.orbit.specs.declared.propagator.Resonant.{Resonant}
 use Rattle.orbit.specs.declared.propagator.Resonant.TheVariants.{No, Yes}
 use Rattle.orbit.specs.declared.propagator.Constants.{Constants}
-use Rattle.record.specs.Record.{kind_of, tail_of, common_of, numbers_of, resonant_of, constants_of, Back}
+use Rattle.record.specs.Record.{kind_of, numbers_of, resonant_of, constants_of, Back}
 
 with-resonant : Constants → Resonant → Constants
 with-resonant c r = record {

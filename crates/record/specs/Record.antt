@@ -4,12 +4,10 @@
 --   5        inclination, right ascension, eccentricity, argument of perigee, mean anomaly, mean motion
 --   11       right_ascension_dot argument_of_perigee_dot mean_anomaly_dot c1 c4 k0 k1 eccentricity_dot inclination_dot
 --   20       a0; or lambda_0 lambda_dot_0 sidereal_time_0, and the coefficients in the enum's order
-use Rattle.std.specs.Prelude.{ℕ, ◌≡◌, Bool, true, false, cond, List, [], ◌∷◌, ◌++◌, eqb, pos, get_or, Float}
+use Rattle.std.specs.Prelude.{ℕ, ◌≡◌, Bool, false, cond, List, [], ◌∷◌, ◌++◌, eqb, pos, get_or, Float}
 use Rattle.std.specs.Float.{nan, fin}
 use Rattle.orbit.specs.declared.class.Class.{Class}
 use Rattle.orbit.specs.declared.class.Class.TheVariants.{NonResonant, OneDay as one_day, HalfDay as half_day}
-use Rattle.orbit.specs.declared.model.Geopotential.{Geopotential}
-use Rattle.orbit.specs.declared.propagator.Orbit.{Orbit}
 use Rattle.orbit.specs.declared.propagator.Resonance.{Resonance}
 use Rattle.orbit.specs.declared.propagator.Resonance.TheVariants.{OneDay, HalfDay}
 use Rattle.orbit.specs.declared.propagator.Resonant.{Resonant}

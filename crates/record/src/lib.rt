@@ -1,6 +1,7 @@
 // The numbers of an orbit's constants in the order of a store's body, there and back: what the store
 // and the C interface share.
 #![tactic(auto)]
+
 ghost use Rattle.std.specs.Prelude.{◌≡◌};
 ghost use Rattle.record.specs.Record.{kind_of, class_kind, tail_of, numbers_of, resonant_of, constants_of};
 

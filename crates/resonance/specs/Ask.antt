@@ -1,5 +1,5 @@
 -- The whole ask: the checks of the time and the numbers, the stepping, and the answer on a node. Definitions only. Assumes nothing.
-use Rattle.std.specs.Prelude.{ℕ, Bool, true, false, cond, ◌&&◌, Float}
+use Rattle.std.specs.Prelude.{ℕ, Bool, true, false, ◌&&◌, Float}
 use Rattle.std.specs.Float.Ieee.Scale.{finite}
 use Rattle.floats.specs.Rounded.{◌⊕◌, ◌⊖◌, ◌⊗◌, ◌⊘◌, ◌rem◌, dec}
 use Rattle.floats.specs.Power.{sq}
@@ -15,7 +15,6 @@ use Rattle.orbit.specs.declared.propagator.Resonant.TheVariants.{No, Yes}
 use Rattle.orbit.specs.declared.propagator.Constants.{Constants}
 use Rattle.elements.specs.Elements.{finite_question, elements_of}
 use Rattle.elements.specs.declared.elements.Question.{Question}
-use Rattle.elements.specs.declared.elements.Outcome.{Outcome}
 use Rattle.times.specs.declared.time.Fault.{Fault}
 use Rattle.times.specs.declared.time.Fault.TheVariants.{TimeNotFinite, TimeBeyondLimit, NumberNotFinite, OrbitNonResonant, NoState, RatesRefused}
 use Rattle.times.specs.declared.time.Checked.{Checked}

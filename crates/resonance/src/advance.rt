@@ -9,21 +9,21 @@ use rates::Integrator;
 use times::time::{Checked, Fault, check_times, is_due, is_placed};
 
 // Where the loop ends: at a state, or before a step that is refused; and the steps made.
-#[derive(Drop)]
+#[derive(Clone, Copy)]
 pub enum Walked {
     At { state: ResonanceState, steps: u32 },
     Stopped { steps: u32 }, // refusal 8
 }
 
 // The answer of a stepping to a time. A refusal hands the state back as it was given.
-#[derive(Drop)]
+#[derive(Clone, Copy)]
 pub enum Advanced {
     At { state: ResonanceState, steps: u32 },
     Refused { fault: Fault, state: ResonanceState },
 }
 
 // Whether a stored state is what its steps give, and how many of them were made.
-#[derive(Drop)]
+#[derive(Clone, Copy)]
 pub struct Replayed {
     pub same: bool,
     pub steps: u32,

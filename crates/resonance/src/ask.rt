@@ -7,6 +7,7 @@ use crate::advance::Advanced;
 use crate::state::{MaybeState, ResonanceState};
 use elements::elements::{Outcome, Question, elements_at};
 use floats::finite::is_finite;
+use floats::remainder::rem;
 use floats::root::{Root, two_thirds};
 use orbit::model::TAU;
 use orbit::propagator::{Constants, Resonance, Resonant};
@@ -14,14 +15,14 @@ use rates::{Integrator, Rates};
 use times::time::{Checked, Fault, is_within};
 
 // The answer of an ask.
-#[derive(Drop)]
+#[derive(Clone, Copy)]
 pub enum Answer {
     Refused(Fault), // refusals 1 to 8: the state comes back as it was given, with no step
     Reached(Outcome), // elements, or refusals 9 to 12, with the advanced state and its steps
 }
 
 // The answer, the state and the steps made.
-#[derive(Drop)]
+#[derive(Clone, Copy)]
 pub struct StateAsked {
     pub answer: Answer,
     pub state: ResonanceState,
@@ -29,7 +30,7 @@ pub struct StateAsked {
 }
 
 // The same where there may be no state.
-#[derive(Drop)]
+#[derive(Clone, Copy)]
 pub struct Asked {
     pub answer: Answer,
     pub state: MaybeState,
@@ -40,7 +41,7 @@ pub struct Asked {
 fn theta(sidereal_time_0: f64, t: f64) -> f64
     ensures { result ≡ theta_at sidereal_time_0 t }
 {
-    (sidereal_time_0 + t * 4.37526908801129966e-3) % TAU
+    rem(sidereal_time_0 + t * 4.37526908801129966e-3, TAU)
 }
 
 // Refusals 1, 2 and 3: the time, and then every other number given.

@@ -12,7 +12,7 @@ use times::time::{Fault, delta_t, is_placed};
 const HALF_DELTA_T_SQUARED: f64 = 259200.0;
 
 // The integrator's time in min since epoch, nᵢ in rad.min⁻¹ and λᵢ in rad.
-#[derive(Drop)]
+#[derive(Clone, Copy)]
 pub struct ResonanceState {
     pub t: f64,
     pub mean_motion: f64,
@@ -20,21 +20,21 @@ pub struct ResonanceState {
 }
 
 // None or a state: the Rust's `Option<&mut ResonanceState>`.
-#[derive(Drop)]
+#[derive(Clone, Copy)]
 pub enum MaybeState {
     None,
     Some(ResonanceState),
 }
 
 // A state's time, and the state handed back.
-#[derive(Drop)]
+#[derive(Clone, Copy)]
 pub struct TimeAndState {
     pub time: f64,
     pub state: ResonanceState,
 }
 
 // The answer of one step. A refusal hands the state back.
-#[derive(Drop)]
+#[derive(Clone, Copy)]
 pub enum Stepped {
     To(ResonanceState),
     Refused { fault: Fault, state: ResonanceState },

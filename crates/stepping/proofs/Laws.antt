@@ -73,6 +73,12 @@ differ A B R C s t p =
 rest_at : (s : Bool) (q : ℕ) (x : Float) (m : ℕ) (e : ℤ) (r : ℕ) → m * up e ≡ q * (720 * down e) + r → r < 2 ^ 53 → down e ≤ 2 ^ 1074 → HasValue x (sign_of s q) (720 * q) 1
     → HasValue (fin s m e ⊖ x) (s && (ltb 0 r || eqb q 0)) r (down e)
 unfolding sub add neg sum
+rest_at false q lib.Ieee.nan m e r p small h v = elim v [ ]
+rest_at false q (lib.Ieee.inf _) m e r p small h v = elim v [ ]
+rest_at true zero lib.Ieee.nan m e r p small h v = elim v [ ]
+rest_at true zero (lib.Ieee.inf _) m e r p small h v = elim v [ ]
+rest_at true (suc q) lib.Ieee.nan m e r p small h v = elim v [ ]
+rest_at true (suc q) (lib.Ieee.inf _) m e r p small h v = elim v [ ]
 rest_at false q (fin a n d) m e r p small h v = go a (v.0 ∙ sign-ahead q)
   where
     go : (a : Bool) → a ≡ false → HasValue (sum binary64 false (m * up e * down d) (not a) (n * up d * down e) (down e * down d)) false r (down e)

@@ -1,9 +1,7 @@
 -- The marked examples hold: those of the crates below, and the empty file by them. Assumes nothing.
-use mathlib.Core.Path.{◌≡◌, refl, sym, ap, ◌∙◌}
-use Prim.Native.Nat.{ℕ}
+use mathlib.Core.Path.{◌≡◌, refl, ap, ◌∙◌}
 use lib.ListN.{length}
 use lib.Ieee.{Float}
-use Rattle.orbit.specs.declared.propagator.Resonant.{Resonant}
 use Rattle.orbit.specs.declared.propagator.Resonant.TheVariants.{No}
 use Rattle.orbit.specs.declared.propagator.Constants.{Constants}
 use Rattle.resonance.specs.declared.state.MaybeState.TheVariants.{None}
@@ -11,10 +9,8 @@ use Rattle.stepping.proofs.Examples.{examples}
 use Rattle.contents.specs.Examples.{empty}
 use Rattle.contents.specs.declared.save.Saved.{Saved}
 use Rattle.contents.proofs.Examples.{empty-file}
-use Rattle.record.specs.Record.{kind_of}
-use Rattle.body.specs.Body.{number_count, body_of}
+use Rattle.body.specs.Body.{body_of}
 use Rattle.body.specs.Examine.{examined}
-use Rattle.body.specs.declared.examine.Body.{Body}
 use Rattle.body.proofs.Sizes.{length-body}
 use Rattle.store.specs.Restore.{restored_at, restored_from}
 use Rattle.store.specs.Save.{is_resonant, of_saved, of_examined}

@@ -12,7 +12,6 @@ use Rattle.orbit.specs.declared.propagator.Constants.{Constants}
 use Rattle.resonance.specs.declared.state.MaybeState.{MaybeState}
 use Rattle.resonance.specs.declared.state.MaybeState.TheVariants.{None, Some}
 use Rattle.contents.specs.Format.{contents_right}
-use Rattle.contents.specs.Records.{body_in}
 use Rattle.contents.specs.Find.{found_in, bytes_at}
 use Rattle.contents.specs.Save.{saved}
 use Rattle.contents.specs.declared.find.Found.{Found}
@@ -20,7 +19,7 @@ use Rattle.contents.specs.declared.find.Found.TheVariants as F
 use Rattle.contents.specs.declared.save.Saved.{Saved}
 use Rattle.contents.specs.declared.save.Saved.TheVariants as S
 use Rattle.contents.proofs.Found.{finds-bodies}
-use Rattle.contents.proofs.Kept.{accepted, save-keeps}
+use Rattle.contents.proofs.Kept.{save-keeps}
 use Rattle.body.specs.Body.{body_of}
 use Rattle.body.specs.Examine.{steps_of, examined}
 use Rattle.body.specs.Read.{body_read}
@@ -34,7 +33,6 @@ use Rattle.store.specs.Save.{is_resonant, is_given, of_saved, of_examined, store
 use Rattle.store.specs.Kept.{SaveRestores}
 use Rattle.store.specs.declared.restore.Restored.{Restored}
 use Rattle.store.specs.declared.restore.Restored.TheVariants.{SatelliteMissing, Of}
-use Rattle.store.specs.declared.save.Stored.{Stored}
 use Rattle.store.specs.declared.save.Stored.TheVariants as W
 use Rattle.store.proofs.Answer.{Passed, passed}
 

@@ -1,5 +1,5 @@
 -- The marked examples of document 01, (a) to (m), as one statement. Definitions and the statement. Assumes nothing.
-use Rattle.std.specs.Prelude.{ℕ, ◌≡◌, List, ◌++◌, length, Float}
+use Rattle.std.specs.Prelude.{ℕ, ◌≡◌, ◌++◌, length, Float}
 use Rattle.orbit.specs.declared.propagator.Resonant.TheVariants.{No}
 use Rattle.orbit.specs.declared.propagator.Constants.{Constants}
 use Rattle.resonance.specs.declared.state.MaybeState.TheVariants.{None}

@@ -9,7 +9,7 @@ use orbit::propagator::Constants;
 use resonance::state::MaybeState;
 
 // The answer of a restore.
-#[derive(Drop)]
+#[derive(Clone, Copy)]
 pub enum Restored {
     FileWrong, // refusal 14
     SatelliteMissing, // refusal 15

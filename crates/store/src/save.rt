@@ -10,7 +10,7 @@ use orbit::propagator::{Constants, Resonant};
 use resonance::state::MaybeState;
 
 // The answer of a save.
-#[derive(Drop)]
+#[derive(Clone, Copy)]
 pub enum Stored {
     OrbitNonResonant, // refusal 4
     NoState, // refusal 5

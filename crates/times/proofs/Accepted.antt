@@ -53,11 +53,17 @@ near-finite (fin s m e) h = tt
 
 -- ---- numbers
 pub number-most : (t : Float) → T (at_most limit t) → number t ≤ 2 ^ 20
+number-most nan h = elim h [ ]
+number-most (inf _) h = elim h [ ]
 number-most (fin s m e) h =
     div_mono (m * up e) (720 * down e) (2 ^ 20) 1 (mul-pos (lit< tt) (down_pos e)) (lit< tt)
     (le_trans (le_of_eq (mul-one (m * up e))) (le_trans (leb→le (m * up e) (limit * down e) h) (le_of_eq (mul_assoc 1048576 720 (down e)))))
 
 pub number-mono : (s t : Float) → T (finite s) → T (finite t) → T (not (shorter t s)) → number s ≤ number t
+number-mono nan t p q h = elim p [ ]
+number-mono (inf _) t p q h = elim p [ ]
+number-mono (fin a m e) nan p q h = elim q [ ]
+number-mono (fin a m e) (inf _) p q h = elim q [ ]
 number-mono (fin a m e) (fin b n d) p q h =
     div_mono (m * up e) (720 * down e) (n * up d) (720 * down d) (mul-pos (lit< tt) (down_pos e)) (mul-pos (lit< tt) (down_pos d))
     (le_trans (le_of_eq (mul_left_comm (m * up e) 720 (down d)))
@@ -78,6 +84,10 @@ same_sign false true t = absurd t
 same_sign false false t = refl
 
 pub at-start : (s t : Float) → T (at_most limit t) → T (placed s) → T (onward s t) → At (back t) (number s) s
+at-start nan t near set fore = elim set [ ]
+at-start (inf _) t near set fore = elim set [ ]
+at-start (fin a m e) nan near set fore = elim near [ ]
+at-start (fin a m e) (inf _) near set fore = elim near [ ]
 at-start (fin a m e) (fin b n d) near set fore = (sign (m * up e / (720 * down e)) whole, mul-one (m * up e) ∙ whole ∙ sym (mul_assoc (m * up e / (720 * down e)) 720 (down e)) ∙ ap (λ (z : ℕ). z * down e) (mul_comm (m * up e / (720 * down e)) 720))
   where
     whole : m * up e ≡ m * up e / (720 * down e) * (720 * down e)

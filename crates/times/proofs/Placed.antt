@@ -65,6 +65,8 @@ pub at-num : (b : Bool) (i : ℕ) (s : Bool) (m : ℕ) (e : ℤ) → At b i (fin
 at-num b i s m e v = sym (mul-one (m * up e)) ∙ v.1 ∙ ap (λ (z : ℕ). z * down e) (mul_comm 720 i) ∙ mul_assoc i 720 (down e)
 
 pub at-number : (b : Bool) (i : ℕ) (x : Float) → At b i x → number x ≡ i
+at-number b i nan v = elim v [ ]
+at-number b i (inf _) v = elim v [ ]
 at-number b i (fin s m e) v = ap (λ (z : ℕ). z / (720 * down e)) (at-num b i s m e v) ∙ mul-div_cancel i (mul-pos (lit< tt) (down_pos e))
 
 -- ---- the test: with P = |t| D
@@ -184,6 +186,8 @@ still i x m e t z v =
 -- ---- the loop's test, by the comparison that document 01 names
 no_nan : (x : Float) (s : Bool) (a c : ℕ) → HasValue x s a c → T (not (is_nan x))
 unfolding is_nan
+no_nan nan s a c v = elim v [ ]
+no_nan (inf _) s a c v = elim v [ ]
 no_nan (fin t m e) s a c v = tt
 
 round-no-nan : (s : Bool) (num den : ℕ) → T (not (is_nan (round binary64 s num den)))
@@ -228,6 +232,10 @@ on-behind x s p q = go (lt x s) (lt s x) refl refl
 -- THE TEST IS EXACT: with the state at ±720 i and t within the limit, one more step is due exactly if i is below the whole part of |t| / 720
 pub due-is : (b : Bool) (i : ℕ) (x t : Float) → T (fits binary64 t) → T (at_most limit t) → back t ≡ b → At b i x → due b x t ≡ ltb i (number t)
 unfolding due delta back dec add sub neg lt round
+due-is false i x nan f h p v = elim h [ ]
+due-is false i x (inf _) f h p v = elim h [ ]
+due-is true i x nan f h p v = elim h [ ]
+due-is true i x (inf _) f h p v = elim h [ ]
 due-is false i x (fin true m e) f h p v = absurd (true≢false p)
 due-is false i x (fin false m e) f h p v =
     on-ahead (sum binary64 false (m * up e * 1) true (720 * down e) (down e * 1)) x (sum-no-nan false true (m * up e * 1) (720 * down e) (down e * 1)) (no_nan x (sign_of false i) (720 * i) 1 v)
@@ -258,6 +266,12 @@ next-val s N D i d h p =
 
 pub at_next : (b : Bool) (i : ℕ) (x : Float) → i < 2 ^ 20 → At b i x → At b (suc i) (x ⊕ delta b)
 unfolding delta dec add neg sum round
+at_next false i nan h v = elim v [ ]
+at_next false i (inf _) h v = elim v [ ]
+at_next true zero nan h v = elim v [ ]
+at_next true zero (inf _) h v = elim v [ ]
+at_next true (suc i) nan h v = elim v [ ]
+at_next true (suc i) (inf _) h v = elim v [ ]
 at_next false i (fin s m e) h v = go s v.0
   where
     go : (s : Bool) → s ≡ sign_of false i → HasValue (sum binary64 s (m * up e * 1) false (720 * down e) (down e * 1)) false (720 * suc i) 1

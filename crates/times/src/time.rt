@@ -7,9 +7,10 @@ ghost use Rattle.times.specs.Refusal.{number as fault_number};
 ghost use Rattle.times.specs.Time.{limit, placed, same_way, not_earlier, refusal, ordering, delta, due};
 
 use floats::finite::{is_finite, is_negative, magnitude};
+use floats::remainder::rem;
 
 // Why a call of the integrator is refused.
-#[derive(Drop)]
+#[derive(Clone, Copy)]
 pub enum Fault {
     TimeNotFinite, // refusal 1
     TimeBeyondLimit, // refusal 2
@@ -39,14 +40,14 @@ impl Fault {
     }
 }
 
-#[derive(Drop)]
+#[derive(Clone, Copy)]
 pub enum Checked {
     Passed,
     Refused(Fault),
 }
 
 // The order of two floats. A pair that has none, as with a NaN, counts as equal.
-#[derive(Drop)]
+#[derive(Clone, Copy)]
 pub enum Ordering {
     Less,
     Equal,
@@ -64,7 +65,7 @@ pub fn is_within(x: f64) -> bool
 pub fn is_placed(x: f64) -> bool
     ensures { result ≡ placed x }
 {
-    (x % 720.0 == 0.0) & is_within(x) & !((x == 0.0) & is_negative(x))
+    (rem(x, 720.0) == 0.0) & is_within(x) & !((x == 0.0) & is_negative(x))
 }
 
 // Whether the state's time s is 0, or has t's sign bit.
@@ -76,8 +77,8 @@ fn is_same_way(s: f64, t: f64) -> bool
 
 // Whether |t| is not below the size of the state's time s.
 fn is_not_earlier(s: f64, t: f64) -> bool
-    requires t { T (finite s) }
-    requires t_2 { T (finite t) }
+    requires s_finite { T (finite s) }
+    requires t_finite { T (finite t) }
     ensures { result ≡ not_earlier s t }
 {
     magnitude(t) >= magnitude(s)

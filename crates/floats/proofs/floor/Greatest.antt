@@ -4,7 +4,7 @@ use mathlib.Core.Path.{◌≡◌, refl, sym, ap, ◌∙◌, subst}
 use Prim.Native.Nat.{ℕ, zero, suc, ◌+◌, ◌-◌, ◌*◌, ◌/◌, ◌%◌, ◌^◌, ◌≤◌, ◌<◌}
 use native.Mathlib.Nat.{le_refl, le_trans, le_of_eq, le_of_lt, lt_of_lt_of_le, lt_of_le_of_lt, lt_irrefl, not-le_of_lt, zero-lt-suc, mul-one, zero-mul, mul_assoc, mul-pos, mul-mod_left, mul-lt-mul_of_pos_right, div-one, div-le_self, div-mul-le_self, div-add-mod', div-lt_iff_lt-mul, le-div_iff_mul-le, zero-mod, add-mul, one-mul}
 use native.Mathlib.Omega.{arith}
-use mathlib.Core.Bool.{Bool, true, false, not, ◌&&◌, cond, true≢false, false≢true}
+use mathlib.Core.Bool.{Bool, true, false, ◌&&◌}
 use lib.IntN.{ℤ, pos, negsuc}
 use lib.Dec.{T, leb, ltb, eqb, eqb→eq, ltb→lt}
 use lib.Pow.{pow-add, pow_pos}

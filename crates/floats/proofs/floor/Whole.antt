@@ -7,9 +7,9 @@ use native.Mathlib.Omega.{arith}
 use mathlib.Core.Logic.{◌⊎◌, inl, inr}
 use mathlib.Core.Bool.{Bool, true, false, not, ◌&&◌, ◌||◌, cond, true≢false, false≢true, beq}
 use lib.IntN.{ℤ, pos, negsuc}
-use lib.Dec.{T, ltb, leb, eqb, eqb→eq, ltb→lt, lt→ltb, nltb→le, le→leb}
-use lib.Pow.{pow-add, pow_pos, pow_mono}
-use lib.Ieee.{Float, nan, inf, fin, binary64, of_bits, up, down, round, add, sub, neg, lt, eq, level, fits}
+use lib.Dec.{T, ltb, leb, eqb, eqb→eq, ltb→lt}
+use lib.Pow.{pow-add, pow_pos}
+use lib.Ieee.{Float, nan, inf, fin, binary64, up, down, round, add, sub, neg, lt, eq, level, fits}
 use lib.Ieee.Fits.{and_l, and_r, up_pos, down_pos, round-fits}
 use lib.Ieee.Exact.{HasValue, round_exact}
 use lib.Ieee.Scale.{round_same}
@@ -18,7 +18,7 @@ use lib.Ieee.Back.{round_whole, whole_unique}
 use borrow.Author.Tests.{ltb-true, ltb-false, lt-ltb, le-ltb}
 use Rattle.floats.specs.Rounded.{◌⊕◌, ◌⊖◌, ⊝◌, dec, magnitude}
 use Rattle.floats.specs.Floor.{floor_of}
-use Rattle.floats.proofs.Rounding.{Within, closest-near, closest-le, closest-ge, round-one}
+use Rattle.floats.proofs.Rounding.{closest-near, closest-le, closest-ge, round-one}
 
 -- ---- sums of whole numbers
 

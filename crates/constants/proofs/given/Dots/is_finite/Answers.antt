@@ -1,0 +1,6 @@
+-- `constants::given::Dots::is_finite` meets its contract: the calls give what the definition names. Assumes nothing.
+use Rattle.constants.proofs.given.Dots.is_finite.Goals as goal
+
+pub returns : goal.returns
+returns c =
+    simp (c.is_finite.ensures, c.is_finite-2.ensures, c.is_finite-3.ensures, c.is_finite-4.ensures, c.is_finite-5.ensures)

@@ -1,0 +1,11 @@
+-- `contents::little_endian::put_u32` meets its contract: a number's bytes are those of its two halves. Assumes nothing.
+use native.Mathlib.Omega.{arith}
+use Rattle.contents.proofs.Laid.{laid-number}
+use Rattle.contents.proofs.little_endian.put_u32.Goals as goal
+
+pub returns : goal.returns
+returns c =
+    let c₂ = c in
+    let c₁ = c₂ in
+    let a = c₁.args in
+    laid-number 2 2 a.x a.at a.out.now (omega arith) c₁.put_u16.ensures c₂.put_u16-2.ensures

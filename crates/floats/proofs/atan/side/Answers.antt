@@ -1,0 +1,13 @@
+-- `floats::atan::side` meets its contract: each arm is that of the test. Assumes nothing.
+use lib.Ieee.{of_bits, round}
+use Rattle.floats.specs.Rounded.{dec}
+use Rattle.floats.specs.Atan.{side}
+use Rattle.floats.proofs.atan.side.Goals as goal
+
+pub returns-then-x : goal.returns-then-x
+unfolding side dec of_bits round
+returns-then-x c = simp c.if-x.true
+
+pub returns-else-x : goal.returns-else-x
+unfolding side dec of_bits round
+returns-else-x c = simp c.if-x.false
