@@ -1,78 +1,78 @@
 // What an ask answers, in words: elements by value and bits, or a refusal.
 use crate::numbers::{put_bits, put_decimal, put_float};
-use crate::say::{ERR, OUT, put, put_refusal, refuse};
+use crate::say::{ERR, OUT, Streams, put, put_refusal, refuse};
 use elements::elements::{Elements, Outcome};
 use floats::finite::bits_of;
 use resonance::ask::Answer;
 
-fn put_element(name: &[u8], x: f64) {
-    put(OUT, name);
-    put_float(OUT, x);
-    put(OUT, b"\n");
+fn put_element(rt: &impl Streams, name: &[u8], x: f64) {
+    put(rt, OUT, name);
+    put_float(rt, OUT, x);
+    put(rt, OUT, b"\n");
 }
 
 // The twelve numbers, a line to each.
-fn put_elements(e: Elements) {
-    put_element(b"inclination          ", e.orbit.inclination);
-    put_element(b"right ascension      ", e.orbit.right_ascension);
-    put_element(b"eccentricity         ", e.orbit.eccentricity);
-    put_element(b"argument of perigee  ", e.orbit.argument_of_perigee);
-    put_element(b"mean anomaly         ", e.orbit.mean_anomaly);
-    put_element(b"mean motion          ", e.orbit.mean_motion);
-    put_element(b"a                    ", e.a);
-    put_element(b"p32                  ", e.p32);
-    put_element(b"p33                  ", e.p33);
-    put_element(b"p34                  ", e.p34);
-    put_element(b"p35                  ", e.p35);
-    put_element(b"p36                  ", e.p36);
+fn put_elements(rt: &impl Streams, e: Elements) {
+    put_element(rt, b"inclination          ", e.orbit.inclination);
+    put_element(rt, b"right ascension      ", e.orbit.right_ascension);
+    put_element(rt, b"eccentricity         ", e.orbit.eccentricity);
+    put_element(rt, b"argument of perigee  ", e.orbit.argument_of_perigee);
+    put_element(rt, b"mean anomaly         ", e.orbit.mean_anomaly);
+    put_element(rt, b"mean motion          ", e.orbit.mean_motion);
+    put_element(rt, b"a                    ", e.a);
+    put_element(rt, b"p32                  ", e.p32);
+    put_element(rt, b"p33                  ", e.p33);
+    put_element(rt, b"p34                  ", e.p34);
+    put_element(rt, b"p35                  ", e.p35);
+    put_element(rt, b"p36                  ", e.p36);
 }
 
 // The elements of an answer that has them.
-pub fn put_answer(a: Answer) {
+pub fn put_answer(rt: &impl Streams, a: Answer) {
     let Answer::Reached(outcome) = a else {
         return;
     };
     let Outcome::Of(e) = outcome else {
         return;
     };
-    put_elements(e);
+    put_elements(rt, e);
 }
 
 // Refusals 10 and 11 carry an eccentricity and the time.
-fn refuse_carrying(number: u32, eccentricity: f64, t: f64) {
-    put_refusal(ERR, number);
-    put(ERR, b": ");
-    put_decimal(ERR, eccentricity, 9, 0);
-    put(ERR, b" (");
-    put_bits(ERR, eccentricity);
-    put(ERR, b") at ");
-    put_decimal(ERR, t, 3, 0);
-    put(ERR, b" minutes\n");
+fn refuse_carrying(rt: &impl Streams, number: u32, eccentricity: f64, t: f64) {
+    put_refusal(rt, ERR, number);
+    put(rt, ERR, b": ");
+    put_decimal(rt, ERR, eccentricity, 9, 0);
+    put(rt, ERR, b" (");
+    put_bits(rt, ERR, eccentricity);
+    put(rt, ERR, b") at ");
+    put_decimal(rt, ERR, t, 3, 0);
+    put(rt, ERR, b" minutes\n");
 }
 
 // Says why an ask is refused, and answers whether it is.
-pub fn is_refused(a: Answer) -> bool {
+pub fn is_refused(rt: &impl Streams, a: Answer) -> bool {
     match a {
         Answer::Refused(fault) => {
-            refuse(fault.number());
+            refuse(rt, fault.number());
             true
         }
         Answer::Reached(outcome) => match outcome {
             Outcome::Of(_) => false,
             Outcome::AngleRefused => {
-                refuse(9);
+                refuse(rt, 9);
                 true
             }
             Outcome::OutOfRangeEccentricity { eccentricity, t } => {
-                refuse_carrying(10, eccentricity, t);
+                refuse_carrying(rt, 10, eccentricity, t);
                 true
             }
             Outcome::OutOfRangePerturbedEccentricity { eccentricity, t } => {
-                refuse_carrying(11, eccentricity, t);
+                refuse_carrying(rt, 11, eccentricity, t);
                 true
             }
             Outcome::ElementsNotFinite => {
-                refuse(12);
+                refuse(rt, 12);
                 true
             }
         },

@@ -4,7 +4,7 @@ use crate::answer::{are_same, is_refused};
 use crate::numbers::{put_bits, put_decimal, put_whole};
 use crate::question::at_time;
 use crate::refusals::saved_size;
-use crate::say::{ERR, OUT, part, put, refuse};
+use crate::say::{ERR, OUT, Streams, part, put, refuse};
 use crate::sets::{italsat, molniya};
 use constants::build::Built;
 use controller::Controller;
@@ -30,40 +30,40 @@ struct Runs {
     same: bool,
 }
 
-fn put_beside(x: f64, y: f64) {
-    put_decimal(OUT, x, 9, 13);
-    put(OUT, b"  ");
-    put_bits(OUT, x);
-    put(OUT, b"  |");
-    put_decimal(OUT, y, 9, 13);
-    put(OUT, b"  ");
-    put_bits(OUT, y);
-    put(OUT, b"\n");
+fn put_beside(rt: &impl Streams, x: f64, y: f64) {
+    put_decimal(rt, OUT, x, 9, 13);
+    put(rt, OUT, b"  ");
+    put_bits(rt, OUT, x);
+    put(rt, OUT, b"  |");
+    put_decimal(rt, OUT, y, 9, 13);
+    put(rt, OUT, b"  ");
+    put_bits(rt, OUT, y);
+    put(rt, OUT, b"\n");
 }
 
 // A time, and the two elements that the resonance moves, of both runs.
-fn put_pair(t: f64, e: Elements, f: Elements) {
-    put_decimal(OUT, t / 60.0, 0, 4);
-    put(OUT, b" h  mean anomaly");
-    put_beside(e.orbit.mean_anomaly, f.orbit.mean_anomaly);
-    put(OUT, b"        mean motion ");
-    put_beside(e.orbit.mean_motion, f.orbit.mean_motion);
+fn put_pair(rt: &impl Streams, t: f64, e: Elements, f: Elements) {
+    put_decimal(rt, OUT, t / 60.0, 0, 4);
+    put(rt, OUT, b" h  mean anomaly");
+    put_beside(rt, e.orbit.mean_anomaly, f.orbit.mean_anomaly);
+    put(rt, OUT, b"        mean motion ");
+    put_beside(rt, e.orbit.mean_motion, f.orbit.mean_motion);
 }
 
 // Whether two outcomes are elements of equal bits. They are written out side by side.
-fn compare_outcomes(t: f64, a: Outcome, b: Outcome) -> bool {
+fn compare_outcomes(rt: &impl Streams, t: f64, a: Outcome, b: Outcome) -> bool {
     let Outcome::Of(e) = a else {
         return false;
     };
     let Outcome::Of(f) = b else {
         return false;
     };
-    put_pair(t, e, f);
+    put_pair(rt, t, e, f);
     are_same(e, f)
 }
 
-fn compare(t: f64, a: Answer, b: Answer) -> bool {
-    if is_refused(a) | is_refused(b) {
+fn compare(rt: &impl Streams, t: f64, a: Answer, b: Answer) -> bool {
+    if is_refused(rt, a) | is_refused(rt, b) {
         return false;
     }
     let Answer::Reached(first) = a else {
@@ -72,11 +72,11 @@ fn compare(t: f64, a: Answer, b: Answer) -> bool {
     let Answer::Reached(second) = b else {
         return false;
     };
-    compare_outcomes(t, first, second)
+    compare_outcomes(rt, t, first, second)
 }
 
 // Both controllers are asked, each with the angles of the constants that it has in force.
-fn ask_both(runs: Runs) -> Runs {
+fn ask_both(rt: &impl Streams, runs: Runs) -> Runs {
     let t = runs.t;
     let straight = runs.straight;
     let restarted = runs.restarted;
@@ -86,7 +86,7 @@ fn ask_both(runs: Runs) -> Runs {
     let answer_b = b.answer;
     let next_a = a.controller;
     let next_b = b.controller;
-    let same = compare(t, answer_a, answer_b);
+    let same = compare(rt, t, answer_a, answer_b);
     Runs {
         t: t + BETWEEN,
         straight: next_a,
@@ -96,52 +96,53 @@ fn ask_both(runs: Runs) -> Runs {
 }
 
 // What takes the dropped controller's place, from the bytes of the store.
-fn resume(fresh: Controller, file: &[u8]) -> Controller {
+fn resume(rt: &impl Streams, fresh: Controller, file: &[u8]) -> Controller {
     let r = fresh.restore(file, SATELLITE);
     let answer = r.answer;
     let number = answer.number();
     if number == 0 {
         put(
+            rt,
             OUT,
             b"        a new one, started with Italsat 2, is restored from them: ",
         );
-        put_whole(OUT, r.steps as u64);
-        put(OUT, b" steps replayed\n");
+        put_whole(rt, OUT, r.steps as u64);
+        put(rt, OUT, b" steps replayed\n");
     } else {
-        refuse(number);
+        refuse(rt, number);
     }
     r.controller
 }
 
 // The first bytes of the room are the store that was written.
-fn resume_from(fresh: Controller, room: &[u8], size: usize) -> Controller {
-    put(OUT, b"        saved into the empty store, ");
-    put_whole(OUT, size as u64);
-    put(OUT, b" bytes; the controller on the right is dropped\n");
-    resume(fresh, part(room, 0, size))
+fn resume_from(rt: &impl Streams, fresh: Controller, room: &[u8], size: usize) -> Controller {
+    put(rt, OUT, b"        saved into the empty store, ");
+    put_whole(rt, OUT, size as u64);
+    put(rt, OUT, b" bytes; the controller on the right is dropped\n");
+    resume(rt, fresh, part(room, 0, size))
 }
 
 // The old controller is saved into the empty store, and given up for one that is restored from it.
-fn restart(old: Controller, fresh: Controller) -> Controller {
+fn restart(rt: &impl Streams, old: Controller, fresh: Controller) -> Controller {
     let mut room = [0u8; 512];
     let stored = old.save(b"ORBT\x01\x00\x00\x00", &mut room, SATELLITE);
     let number = stored.number();
     if number != 0 {
-        refuse(number);
+        refuse(rt, number);
         return fresh;
     }
-    resume_from(fresh, &room, saved_size(stored))
+    resume_from(rt, fresh, &room, saved_size(stored))
 }
 
 // One ask of both, and the restart where it is due.
-fn turn(runs: Runs, other: Constants, i: u32) -> Runs {
-    let next = ask_both(runs);
+fn turn(rt: &impl Streams, runs: Runs, other: Constants, i: u32) -> Runs {
+    let next = ask_both(rt, runs);
     if i != SAVED_AFTER {
         return next;
     }
     let old = next.restarted;
     let straight = next.straight;
-    let resumed = restart(old, Controller::start(other));
+    let resumed = restart(rt, old, Controller::start(other));
     Runs {
         t: next.t,
         straight,
@@ -151,7 +152,7 @@ fn turn(runs: Runs, other: Constants, i: u32) -> Runs {
 }
 
 // Whether every answer of the two runs had equal bits.
-fn run(c: Constants, other: Constants) -> bool {
+fn run(rt: &impl Streams, c: Constants, other: Constants) -> bool {
     let mut runs = Runs {
         t: 0.0,
         straight: Controller::start(c),
@@ -160,14 +161,15 @@ fn run(c: Constants, other: Constants) -> bool {
     };
     let mut i: u32 = 0;
     while i < ASKS {
-        runs = turn(runs, other, i);
+        runs = turn(rt, runs, other, i);
         i += 1;
     }
     runs.same
 }
 
-fn put_head() {
+fn put_head(rt: &impl Streams) {
     put(
+        rt,
         OUT,
         b"Molniya 2-14, a half-day orbit, asked every 6 hours over three days.
 Left: the controller that never restarts. Right: the one that does.
@@ -177,9 +179,10 @@ Angles in radians, to the nearest in nine places, and the bits of each number.
     );
 }
 
-fn put_verdict(same: bool) {
+fn put_verdict(rt: &impl Streams, same: bool) {
     if same {
         put(
+            rt,
             OUT,
             b"
 All twelve numbers of each answer are equal, bit for bit, at all 13 times:
@@ -189,21 +192,23 @@ the dish points where it would have pointed without the restart.
         return;
     }
     put(
+        rt,
         OUT,
         b"
 The two runs differ:
 the dish does NOT point where it would have pointed without the restart.
 ",
     );
-    put(ERR, b"station: the two runs differ\n");
+    put(rt, ERR, b"station: the two runs differ\n");
 }
 
 // The restart, from the two orbits to the verdict.
-pub fn show() {
+pub fn show(rt: &impl Streams) {
     let first = molniya();
     let second = italsat();
     let Built::Of(c) = first else {
         put(
+            rt,
             ERR,
             b"station: the orbit that is built in cannot be built\n",
         );
@@ -211,11 +216,12 @@ pub fn show() {
     };
     let Built::Of(other) = second else {
         put(
+            rt,
             ERR,
             b"station: the orbit that is built in cannot be built\n",
         );
         return;
     };
-    put_head();
-    put_verdict(run(c, other));
+    put_head(rt);
+    put_verdict(rt, run(rt, c, other));
 }

@@ -1,19 +1,48 @@
 // Where words go: answers to standard output, and what went wrong to standard error.
 ghost use Rattle.std.specs.Prelude.{◌≤◌, length};
 
-use bytes::scan::find;
+use crate::numbers::put_whole;
+use std::io;
+use std::io::ErrorKind;
 
-pub const OUT: i32 = libc::STDOUT_FILENO;
+#[derive(Clone, Copy)]
+pub enum Stream {
+    Answers,
+    Errors,
+}
 
-pub const ERR: i32 = libc::STDERR_FILENO;
+pub const OUT: Stream = Stream::Answers;
 
-// An answer that cannot be written out is told, so that it does not pass for a good one.
-pub fn put(fd: i32, text: &[u8]) {
-    if io::write_all(fd, text) {
-        return;
+pub const ERR: Stream = Stream::Errors;
+
+// What has the two streams. The bytes need not be text.
+pub trait Streams {
+    fn write(&self, to: Stream, bytes: &[u8]) -> io::Result<()>;
+}
+
+impl Streams for HostRuntime {
+    fn write(&self, to: Stream, bytes: &[u8]) -> io::Result<()> {
+        match to {
+            Stream::Answers => self.stdout().write_all(bytes),
+            Stream::Errors => self.stderr().write_all(bytes),
+        }
     }
-    if fd == OUT {
-        io::write_all(ERR, b"station: standard output cannot be written\n");
+}
+
+// An answer that cannot be written out is told, so that it does not pass for a good one. A reader that
+// went away, as in a pipe to head, is no fault.
+pub fn put(rt: &impl Streams, to: Stream, text: &[u8]) {
+    let Err(e) = rt.write(to, text) else {
+        return;
+    };
+    if let Stream::Answers = to {
+        tell_unwritten(rt, e.kind());
+    }
+}
+
+fn tell_unwritten(rt: &impl Streams, why: ErrorKind) {
+    if why != ErrorKind::BrokenPipe {
+        let _ = rt.write(ERR, b"station: standard output cannot be written\n");
     }
 }
 
@@ -55,16 +84,28 @@ fn line_start(text: &[u8], n: u32) -> usize
     i
 }
 
-fn put_line(fd: i32, text: &[u8], n: u32) {
+// Where the line that begins at `begin` ends, or the text's end.
+fn line_end(text: &[u8], begin: usize) -> usize {
+    let mut i: usize = begin;
+    while i < text.len() {
+        if text[i] == b'\n' {
+            return i;
+        }
+        i += 1;
+    }
+    i
+}
+
+fn put_line(rt: &impl Streams, to: Stream, text: &[u8], n: u32) {
     let begin = line_start(text, n);
-    let end = find(text, begin, text.len(), b'\n');
-    put(fd, part(text, begin, end));
+    put(rt, to, part(text, begin, line_end(text, begin)));
 }
 
 // What a refusal's number means: its line here.
-fn put_meaning(fd: i32, number: u32) {
+fn put_meaning(rt: &impl Streams, to: Stream, number: u32) {
     put_line(
-        fd,
+        rt,
+        to,
         b"the time is not finite
 the time is beyond 754,974,720 minutes
 another number given is not finite
@@ -91,15 +132,15 @@ the store is full: it has 128 satellites
 }
 
 // A refusal: its number and its words, with no line end.
-pub fn put_refusal(fd: i32, number: u32) {
-    put(fd, b"refused ");
-    io::print_decimal(fd, number as u64);
-    put(fd, b": ");
-    put_meaning(fd, number);
+pub fn put_refusal(rt: &impl Streams, to: Stream, number: u32) {
+    put(rt, to, b"refused ");
+    put_whole(rt, to, number as u64);
+    put(rt, to, b": ");
+    put_meaning(rt, to, number);
 }
 
 // A refusal as a line of its own, on standard error.
-pub fn refuse(number: u32) {
-    put_refusal(ERR, number);
-    put(ERR, b"\n");
+pub fn refuse(rt: &impl Streams, number: u32) {
+    put_refusal(rt, ERR, number);
+    put(rt, ERR, b"\n");
 }

@@ -1,19 +1,34 @@
 // Replays data/floats.txt on the crate `floats`: a call to a line, with the refusal number and the
 // answer that it must give. Writes how many lines passed, and the first that did not.
 #![tactic(auto)]
-ghost use Rattle.std.specs.Prelude.{◌≤◌, ◌≡◌, length};
 
-use bytes::scan::find;
-use check::same;
+ghost use Rattle.std.specs.Prelude.{◌≤◌, ◌≡◌, length, IfOk};
+
 use floats::atan::atan2;
 use floats::finite::{bits_of, of_bits};
 use floats::floor::floor;
 use floats::remainder::rem_euclid;
 use floats::root::{Root, cbrt, sqrt, three_halves, two_thirds};
 use floats::trig::{Trig, cos, sin};
-use libc::STDOUT_FILENO;
+use std::io::Read;
+use std::{fs, io};
 
 // ---- reading a line
+
+// The first place of `b` at or after `from` and below `to`, and `to` where there is none.
+fn find(s: &[u8], from: usize, to: usize, b: u8) -> usize
+    requires { (from ≤ to) × (to ≤ length s.now) }
+    ensures { (from ≤ result) × (result ≤ to) }
+{
+    let mut i = from;
+    while i < to {
+        if s[i] == b {
+            return i;
+        }
+        i += 1;
+    }
+    to
+}
 
 // The byte at i, and a line end where there is none.
 fn byte(line: &[u8], i: usize) -> u8 {
@@ -88,7 +103,7 @@ fn starts(line: &[u8], word: &[u8]) -> bool {
     if line.len() < n {
         return false;
     }
-    same(&line[0..n], word)
+    &line[0..n] == word
 }
 
 // ---- one case
@@ -204,16 +219,12 @@ fn passes(line: &[u8]) -> bool {
 
 // ---- the file
 
-fn write(text: &[u8]) {
-    io::write_all(STDOUT_FILENO, text);
+fn write(rt: &impl Print, text: &[u8]) -> io::Result<()> {
+    rt.write_all(text)
 }
 
-fn write_tally(passed: u64, total: u64) {
-    write(b"floats ");
-    io::print_decimal(STDOUT_FILENO, passed);
-    write(b" passed of ");
-    io::print_decimal(STDOUT_FILENO, total);
-    write(b"\n");
+fn write_tally(rt: &impl Print, passed: u64, total: u64) -> io::Result<()> {
+    println!(rt; "floats {passed} passed of {total}")
 }
 
 // How many cases the line has: none where it is a remark or empty.
@@ -228,24 +239,24 @@ fn cases(line: &[u8]) -> u64
 }
 
 // How many cases of the line pass. The first that does not is written out.
-fn passed_cases(line: &[u8], is_first: bool) -> u64
-    ensures { result ≤ 1 }
+fn passed_cases(rt: &impl Print, line: &[u8], is_first: bool) -> io::Result<u64>
+    ensures { IfOk result (λ n. n ≤ 1) }
 {
     if cases(line) == 0 {
-        return 0;
+        return Ok(0);
     }
     if passes(line) {
-        return 1;
+        return Ok(1);
     }
     if is_first {
-        write(b"differs: ");
-        write(line);
-        write(b"\n");
+        write(rt, b"differs: ")?;
+        write(rt, line)?;
+        write(rt, b"\n")?;
     }
-    0
+    Ok(0)
 }
 
-fn replay(s: &[u8]) {
+fn replay(rt: &impl Print, s: &[u8]) -> io::Result<()> {
     let mut passed: u64 = 0;
     let mut total: u64 = 0;
     let n = s.len();
@@ -253,11 +264,11 @@ fn replay(s: &[u8]) {
     while i < n {
         let e = find(s, i, n, b'\n');
         let line = &s[i..e];
-        passed += passed_cases(line, passed == total);
+        passed += passed_cases(rt, line, passed == total)?;
         total += cases(line);
         i = e + 1;
     }
-    write_tally(passed, total);
+    write_tally(rt, passed, total)
 }
 
 // Room for the whole file. One that is longer is cut, and its tally falls short.
@@ -267,14 +278,24 @@ fn room() -> [u8; 262144]
     [0; 262144]
 }
 
-fn main() {
-    let fd = os::open_read(b"floats.txt");
-    if fd < 0 {
-        os::fail(b"floats.txt");
-        return;
+// Reads until the file ends or `text` is full. Answers how many bytes were read.
+fn read_full<R: Read>(file: &mut R, text: &mut [u8]) -> io::Result<usize>
+    ensures { IfOk result (λ n. n ≤ length text.new) }
+{
+    let mut n = 0;
+    while n < text.len() {
+        let more = file.read(&mut text[n..])?;
+        if more == 0 {
+            return Ok(n);
+        }
+        n += more;
     }
+    Ok(n)
+}
+
+fn main(rt: HostRuntime) -> io::Result<()> {
+    let mut file = fs::open(&rt, "floats.txt")?;
     let mut text = room();
-    let n = io::read_full(fd, &mut text);
-    libc::close(fd);
-    replay(&text[..n]);
+    let n = read_full(&mut file, &mut text)?;
+    replay(&rt, &text[..n])
 }

@@ -1,19 +1,34 @@
 // Replays data/store.txt on the store: a restore or a save to a line, with the refusal number and what it
 // must answer. Writes how many cases passed, and the first that did not.
 #![tactic(auto)]
-ghost use Rattle.std.specs.Prelude.{◌≤◌, ◌≡◌, length};
 
-use bytes::scan::find;
-use check::same;
+ghost use Rattle.std.specs.Prelude.{◌≤◌, ◌≡◌, length, IfOk};
+
 use floats::finite::{bits_of, of_bits};
-use libc::STDOUT_FILENO;
 use orbit::propagator::Constants;
 use record::{constants_of, kind_of, numbers_of};
 use resonance::state::{MaybeState, ResonanceState};
+use std::io::Read;
+use std::{fs, io};
 use store::restore::{Restored, restore};
 use store::save::{Stored, save};
 
 // ---- reading a line
+
+// The first place of `b` at or after `from` and below `to`, and `to` where there is none.
+fn find(s: &[u8], from: usize, to: usize, b: u8) -> usize
+    requires { (from ≤ to) × (to ≤ length s.now) }
+    ensures { (from ≤ result) × (result ≤ to) }
+{
+    let mut i = from;
+    while i < to {
+        if s[i] == b {
+            return i;
+        }
+        i += 1;
+    }
+    to
+}
 
 // The value of a hexadecimal digit, and 16 for any other byte.
 fn digit(b: u8) -> u8 {
@@ -30,7 +45,7 @@ fn starts(line: &[u8], word: &[u8]) -> bool {
     if line.len() < n {
         return false;
     }
-    same(&line[0..n], word)
+    &line[0..n] == word
 }
 
 fn wide(x: u8) -> u64 {
@@ -319,7 +334,7 @@ fn is_output(out: &[u8; 4096], new: &[u8; 4096], size: usize) -> bool {
     let before = untouched();
     let written = &out[..];
     let told = &new[..];
-    same(&written[0..size], &told[0..size]) & same(&written[size..4096], &before[size..4096])
+    (&written[0..size] == &told[0..size]) & (&written[size..4096] == &before[size..4096])
 }
 
 // save: satellite, length of the output; refusal, and places of the record with their numbers
@@ -485,16 +500,12 @@ fn passes(
 
 // ---- the file
 
-fn write(text: &[u8]) {
-    io::write_all(STDOUT_FILENO, text);
+fn write(rt: &impl Print, text: &[u8]) -> io::Result<()> {
+    rt.write_all(text)
 }
 
-fn write_tally(passed: u64, total: u64) {
-    write(b"store ");
-    io::print_decimal(STDOUT_FILENO, passed);
-    write(b" of ");
-    io::print_decimal(STDOUT_FILENO, total);
-    write(b"\n");
+fn write_tally(rt: &impl Print, passed: u64, total: u64) -> io::Result<()> {
+    println!(rt; "store {passed} of {total}")
 }
 
 // How many cases the line has: none where it is a remark or says what holds from now on, which is taken.
@@ -532,6 +543,7 @@ fn cases(
 
 // How many of the line's cases, one at most, pass. The first that does not is written out.
 fn passed_cases(
+    rt: &impl Print,
     line: &[u8],
     count: u64,
     file: &[u8; 4096],
@@ -539,24 +551,24 @@ fn passed_cases(
     sizes: &[usize; 2],
     record: &[u64; 41],
     is_first: bool,
-) -> u64
-    ensures { result ≤ 1 }
+) -> io::Result<u64>
+    ensures { IfOk result (λ n. n ≤ 1) }
 {
     if count == 0 {
-        return 0;
+        return Ok(0);
     }
     if passes(line, file, new, sizes, record) {
-        return 1;
+        return Ok(1);
     }
     if is_first {
-        write(b"differs: ");
-        write(line);
-        write(b"\n");
+        write(rt, b"differs: ")?;
+        write(rt, line)?;
+        write(rt, b"\n")?;
     }
-    0
+    Ok(0)
 }
 
-fn replay(s: &[u8]) {
+fn replay(rt: &impl Print, s: &[u8]) -> io::Result<()> {
     let mut file = no_bytes();
     let mut new = no_bytes();
     // no file yet
@@ -570,11 +582,20 @@ fn replay(s: &[u8]) {
         let e = find(s, i, n, b'\n');
         let line = &s[i..e];
         let count = cases(line, &mut file, &mut new, &mut sizes, &mut record);
-        passed += passed_cases(line, count, &file, &new, &sizes, &record, passed == total);
+        passed += passed_cases(
+            rt,
+            line,
+            count,
+            &file,
+            &new,
+            &sizes,
+            &record,
+            passed == total,
+        )?;
         total += count;
         i = e + 1;
     }
-    write_tally(passed, total);
+    write_tally(rt, passed, total)
 }
 
 // Room for the whole file. One that is longer is cut, and its tally falls short.
@@ -584,14 +605,24 @@ fn room() -> [u8; 1048576]
     [0; 1048576]
 }
 
-fn main() {
-    let fd = os::open_read(b"store.txt");
-    if fd < 0 {
-        os::fail(b"store.txt");
-        return;
+// Reads until the file ends or `text` is full. Answers how many bytes were read.
+fn read_full<R: Read>(file: &mut R, text: &mut [u8]) -> io::Result<usize>
+    ensures { IfOk result (λ n. n ≤ length text.new) }
+{
+    let mut n = 0;
+    while n < text.len() {
+        let more = file.read(&mut text[n..])?;
+        if more == 0 {
+            return Ok(n);
+        }
+        n += more;
     }
+    Ok(n)
+}
+
+fn main(rt: HostRuntime) -> io::Result<()> {
+    let mut file = fs::open(&rt, "store.txt")?;
     let mut text = room();
-    let n = io::read_full(fd, &mut text);
-    libc::close(fd);
-    replay(&text[0..n]);
+    let n = read_full(&mut file, &mut text)?;
+    replay(&rt, &text[..n])
 }
