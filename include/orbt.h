@@ -1,4 +1,4 @@
-/* Orbt: half-day and one-day orbits, for C. Link with liborbt.a (rt staticlib orbt).
+/* Orbt: half-day and one-day orbits, for C. Link with liborbt.a (oracle/library makes it).
  *
  * A call returns 0 where it answers, and a refusal's number where it does not; then every float and
  * number behind its pointers is what it was, unless said otherwise. Angles are in radians, times in
