@@ -1,12 +1,11 @@
 -- `constants::build::build` meets its contract: each answer is the case that the two tests and the kind pick. Assumes nothing.
-use mathlib.Core.Path.{◌∙◌}
-use mathlib.Core.Path.{sym}
+use mathlib.Core.Path.{◌∙◌, sym}
 use Rattle.constants.specs.Build.{checked, built_of}
 use Rattle.constants.proofs.build.build.Goals as goal
 
 pub returns-then-not-is_finite : goal.returns-then-not-is_finite
 unfolding built_of
-returns-then-not-is_finite c = simp ((sym c.is_finite.ensures ∙ c.if-not-is_finite.true))
+returns-then-not-is_finite c = simp (sym c.is_finite.ensures ∙ c.if-not-is_finite.true)
 
 pub returns-then-is_finite : goal.returns-then-is_finite
 unfolding built_of checked

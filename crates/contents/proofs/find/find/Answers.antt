@@ -17,4 +17,4 @@ find_entry-requires c = let r = right _ (sym c.is_right.ensures ∙ c.if-not-is_
 
 pub returns : goal.returns
 unfolding found_in
-returns c = let u = c in simp (sym c.is_right.ensures ∙ c.if-not-is_right.false, ← u.u16_at-n.ensures, c.find_entry.ensures)
+returns c = simp (sym c.is_right.ensures ∙ c.if-not-is_right.false, ← c.u16_at-n.ensures, c.find_entry.ensures)

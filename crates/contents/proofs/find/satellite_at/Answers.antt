@@ -18,7 +18,7 @@ u16_at-n-requires c = let r = right _ (sym c.is_right.ensures ∙ c.if-not-is_ri
 
 pub returns-then-n-i : goal.returns-then-n-i
 unfolding listed_in
-returns-then-n-i c = let u = c in simp (sym c.is_right.ensures ∙ c.if-not-is_right.false, ← u.u16_at-n.ensures, le-ltb _ _ c.if-n-i.true)
+returns-then-n-i c = simp (sym c.is_right.ensures ∙ c.if-not-is_right.false, ← c.u16_at-n.ensures, le-ltb _ _ c.if-n-i.true)
 
 pub u32_at-requires : goal.u32_at-requires
 u32_at-requires c = let r = right _ (sym c.is_right.ensures ∙ c.if-not-is_right.false) in omega arith
@@ -26,9 +26,7 @@ u32_at-requires c = let r = right _ (sym c.is_right.ensures ∙ c.if-not-is_righ
 pub returns : goal.returns
 unfolding listed_in
 returns c =
-    let i = c in
-    let u = i in
-    let a = u.args in
+    let a = c.args in
     let s = a.file.now in
-    let h = satellite-of s a.i u.u16_at-n.result (drop 8 s) i.if-n-i.false in
-    simp (sym c.is_right.ensures ∙ c.if-not-is_right.false, ← u.u16_at-n.ensures, lt-ltb _ _ i.if-n-i.false, h, c.u32_at.ensures, drop-drop)
+    let h = satellite-of s a.i c.u16_at-n.result (drop 8 s) c.if-n-i.false in
+    simp (sym c.is_right.ensures ∙ c.if-not-is_right.false, ← c.u16_at-n.ensures, lt-ltb _ _ c.if-n-i.false, h, c.u32_at.ensures, drop-drop)

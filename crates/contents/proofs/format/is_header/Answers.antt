@@ -11,6 +11,4 @@ returns-then-file-lt8 c = simp (lt-leb _ _ c.if-file-lt8.true)
 pub returns : goal.returns
 unfolding header_right
 returns c =
-    let c₂ = c in
-    let c₁ = c₂ in
-    simp (le-leb _ _ c₁.if-file-lt8.false, magic-number, ← c₁.u32_at-magic.ensures, ← c₂.u16_at-version.ensures, ← c.u16_at-n.ensures)
+    simp (le-leb _ _ c.if-file-lt8.false, magic-number, ← c.u32_at-magic.ensures, ← c.u16_at-version.ensures, ← c.u16_at-n.ensures)

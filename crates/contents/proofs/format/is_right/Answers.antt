@@ -16,8 +16,7 @@ u16_at-n-requires c = let h = headed _ (sym c.is_header.ensures ∙ c.if-not-is_
 pub returns-then-file-n : goal.returns-then-file-n
 unfolding contents_right
 returns-then-file-n c =
-    let u = c in
-    simp (sym c.is_header.ensures ∙ c.if-not-is_header.false, ← u.u16_at-n.ensures, lt-leb _ _ c.if-file-n.true)
+    simp (sym c.is_header.ensures ∙ c.if-not-is_header.false, ← c.u16_at-n.ensures, lt-leb _ _ c.if-file-n.true)
 
 pub is_chained-requires : goal.is_chained-requires
 is_chained-requires c = let h = headed _ (sym c.is_header.ensures ∙ c.if-not-is_header.false) in omega arith
@@ -25,6 +24,4 @@ is_chained-requires c = let h = headed _ (sym c.is_header.ensures ∙ c.if-not-i
 pub returns : goal.returns
 unfolding contents_right
 returns c =
-    let i = c in
-    let u = i in
-    simp (sym c.is_header.ensures ∙ c.if-not-is_header.false, ← u.u16_at-n.ensures, le-leb _ _ i.if-file-n.false, c.is_chained.ensures)
+    simp (sym c.is_header.ensures ∙ c.if-not-is_header.false, ← c.u16_at-n.ensures, le-leb _ _ c.if-file-n.false, c.is_chained.ensures)

@@ -5,7 +5,5 @@ use Rattle.contents.proofs.little_endian.put_u16.Goals as goal
 
 pub returns : goal.returns
 returns c =
-    let c₂ = c in
-    let c₁ = c₂ in
-    let a = c₁.args in
-    laid-number 1 1 a.x a.at a.out.now (omega arith) c₁.put_u8.ensures c₂.put_u8-2.ensures
+    let a = c.args in
+    laid-number 1 1 a.x a.at a.out.now (omega arith) c.put_u8.ensures c.put_u8-2.ensures

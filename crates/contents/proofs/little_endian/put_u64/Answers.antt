@@ -20,9 +20,7 @@ returns-then-out-at-lt8 c =
 
 pub returns : goal.returns
 returns c =
-    let c₂ = c in
-    let c₁ = c₂ in
-    let a = c₁.args in
+    let a = c.args in
     let n = length-le_bytes 8 a.x in
-    laid-number 4 4 a.x a.at a.out.now (omega arith) c₁.put_u32.ensures c₂.put_u32-2.ensures
+    laid-number 4 4 a.x a.at a.out.now (omega arith) c.put_u32.ensures c.put_u32-2.ensures
     ∙ sym (laid-inside a.at (le_bytes 8 a.x) a.out.now (omega arith))

@@ -12,15 +12,12 @@ use Rattle.contents.proofs.save.put_bodies.Goals as goal
 pub returns : goal.returns
 unfolding bodies_with
 returns c =
-    let c₃ = c in
-    let c₂ = c₃ in
-    let c₁ = c₂ in
-    let a = c₁.args in
+    let a = c.args in
     let l = a.out.now in
     let s = a.file.now in
     let b₁ = take (a.cut - a.end) (drop a.end s) in
     let b₂ = take (length s - a.rest) (drop a.rest s) in
     let n₁ : length b₁ ≡ a.cut - a.end = length-take-le _ _ (simp length-drop (omega arith)) in
-    let e₂ = laid_then a.at (a.at + (a.cut - a.end)) b₁ a.body.now l (omega arith) c₁.put_bytes.ensures (simp n₁) c₂.put_bytes-2.ensures in
-    laid_then a.at (a.at + (a.cut - a.end) + length a.body.now) (b₁ ++ a.body.now) b₂ l (omega arith) e₂ (simp (length-append, n₁) (omega arith)) c₃.put_bytes-3.ensures
+    let e₂ = laid_then a.at (a.at + (a.cut - a.end)) b₁ a.body.now l (omega arith) c.put_bytes.ensures (simp n₁) c.put_bytes-2.ensures in
+    laid_then a.at (a.at + (a.cut - a.end) + length a.body.now) (b₁ ++ a.body.now) b₂ l (omega arith) e₂ (simp (length-append, n₁) (omega arith)) c.put_bytes-3.ensures
     ∙ simp (append_assoc, take_all (length s - a.rest) (drop a.rest s) (simp length-drop (omega arith)))

@@ -13,11 +13,8 @@ use Rattle.contents.proofs.save.put_entry.Goals as goal
 pub returns : goal.returns
 unfolding entry_bytes
 returns c =
-    let c₃ = c in
-    let c₂ = c₃ in
-    let c₁ = c₂ in
-    let a = c₁.args in
+    let a = c.args in
     let l = a.out.now in
-    let e₂ = laid_then a.at (a.at + 4) (le_bytes 4 a.satellite) (le_bytes 4 a.offset) l (omega arith) c₁.put_u32.ensures (simp length-le_bytes) c₂.put_u32-2.ensures in
-    laid_then a.at (a.at + 8) (le_bytes 4 a.satellite ++ le_bytes 4 a.offset) (le_bytes 4 a.size) l (omega arith) e₂ (simp (length-append, length-le_bytes)) c₃.put_u32-3.ensures
+    let e₂ = laid_then a.at (a.at + 4) (le_bytes 4 a.satellite) (le_bytes 4 a.offset) l (omega arith) c.put_u32.ensures (simp length-le_bytes) c.put_u32-2.ensures in
+    laid_then a.at (a.at + 8) (le_bytes 4 a.satellite ++ le_bytes 4 a.offset) (le_bytes 4 a.size) l (omega arith) e₂ (simp (length-append, length-le_bytes)) c.put_u32-3.ensures
     ∙ simp append_assoc

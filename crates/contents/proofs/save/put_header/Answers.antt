@@ -10,10 +10,7 @@ use Rattle.contents.proofs.save.put_header.Goals as goal
 pub returns : goal.returns
 unfolding le_bytes header
 returns c =
-    let c₃ = c in
-    let c₂ = c₃ in
-    let c₁ = c₂ in
-    let a = c₁.args in
+    let a = c.args in
     let l = a.out.now in
-    let e₂ = laid_then 0 4 (le_bytes 4 0x5442_524F) (le_bytes 2 1) l (omega arith) c₁.put_u32.ensures refl c₂.put_u16.ensures in
-    laid_then 0 6 (le_bytes 4 0x5442_524F ++ le_bytes 2 1) (le_bytes 2 a.n) l (omega arith) e₂ refl c₃.put_u16-2.ensures
+    let e₂ = laid_then 0 4 (le_bytes 4 0x5442_524F) (le_bytes 2 1) l (omega arith) c.put_u32.ensures refl c.put_u16.ensures in
+    laid_then 0 6 (le_bytes 4 0x5442_524F ++ le_bytes 2 1) (le_bytes 2 a.n) l (omega arith) e₂ refl c.put_u16-2.ensures

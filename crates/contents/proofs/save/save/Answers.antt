@@ -63,38 +63,32 @@ returns-then-out-total c = let k = known c.args.file.now c.args.satellite c.args
 
 pub put_table-requires : goal.put_table-requires
 put_table-requires c =
-    let f = c in
-    let a = f.args in
+    let a = c.args in
     let s = a.file.now in
     let k = known c.args.file.now c.args.satellite c.args.body.now _ _ _ c.is_right.ensures c.if-not-is_right.false c.u16_at-n.ensures c.find_place-p.ensures in
     let r = right s (sym c.is_right.ensures ∙ c.if-not-is_right.false) in
-    let n = f.u16_at-n.ensures in
-    let p = f.find_place-p.result in
+    let n = c.u16_at-n.ensures in
+    let p = c.find_place-p.result in
     let m = ap (λ (j : ℕ). end_of (contents_end (j + 1 - p.old)) (entries p.below (drop 8 s))) n ∙ k.mid in
     omega arith
 
 pub put_bodies-requires : goal.put_bodies-requires
 put_bodies-requires c =
-    let f = c in
     let k = known c.args.file.now c.args.satellite c.args.body.now _ _ _ c.is_right.ensures c.if-not-is_right.false c.u16_at-n.ensures c.find_place-p.ensures in
-    let n = f.u16_at-n.ensures in
+    let n = c.u16_at-n.ensures in
     omega arith
 
 pub returns : goal.returns
 returns c =
-    let c₃ = c in
-    let c₂ = c₃ in
-    let c₁ = c₂ in
-    let f = c₁ in
-    let a = f.args in
+    let a = c.args in
     let k = known c.args.file.now c.args.satellite c.args.body.now _ _ _ c.is_right.ensures c.if-not-is_right.false c.u16_at-n.ensures c.find_place-p.ensures in
-    let n = f.u16_at-n.ensures in
+    let n = c.u16_at-n.ensures in
     let s = a.file.now in
     let g = saved_file s a.satellite a.body.now in
-    let m = f.u16_at-n.result in
-    let p = f.find_place-p.result in
+    let m = c.u16_at-n.result in
+    let p = c.find_place-p.result in
     let e : contents_end (m + 1 - p.old) + (p.cut - contents_end m) + length a.body.now + (length s - p.rest) ≡ length g = omega arith in (
       ap Written e ∙ sym (is-written s a.satellite a.body.now (length a.out.now) (sym c.is_right.ensures ∙ c.if-not-is_right.false) (omega arith) (omega arith) (omega arith)),
-      three s a.satellite a.body.now p k m n a.out.now c₁.put_header.ensures c₂.put_table.ensures c₃.put_bodies.ensures
+      three s a.satellite a.body.now p k m n a.out.now c.put_header.ensures c.put_table.ensures c.put_bodies.ensures
           ∙ ap (λ (j : ℕ). g ++ drop j a.out.now) (sym e),
     )

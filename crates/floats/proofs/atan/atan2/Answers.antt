@@ -8,14 +8,12 @@ use Rattle.floats.proofs.atan.atan2.Goals as goal
 pub returns-then-y : goal.returns-then-y
 unfolding arc_of dec of_bits round
 returns-then-y c =
-    let c2 = c in
-    simp (sym c2.is_finite.ensures, sym c2.is_finite-2.ensures, c.if-is_finite.true, c.if-y.true, c.along.ensures)
+    simp (sym c.is_finite.ensures, sym c.is_finite-2.ensures, c.if-is_finite.true, c.if-y.true, c.along.ensures)
 
 pub returns-then-is_finite : goal.returns-then-is_finite
 unfolding arc_of dec of_bits round
 returns-then-is_finite c =
-    let c2 = c in
-    simp (sym c2.is_finite.ensures, sym c2.is_finite-2.ensures, c.if-is_finite.true, c.if-y.false, c.pointed.ensures)
+    simp (sym c.is_finite.ensures, sym c.is_finite-2.ensures, c.if-is_finite.true, c.if-y.false, c.pointed.ensures)
 
 pub returns : goal.returns
 unfolding arc_of dec of_bits div round

@@ -6,4 +6,4 @@ use Rattle.floats.proofs.atan.pointed.Goals as goal
 
 pub returns : goal.returns
 unfolding pointed dec of_bits round
-returns c = let c6 = c in let c5 = c6 in let c4 = c5 in let c3 = c4 in let c2 = c3 in let c1 = c2 in simp (c.rest.ensures, c6.lean.ensures, c5.sense.ensures, c4.greater.ensures, c3.lesser.ensures, c2.side-sx.ensures, c1.side-sy.ensures)
+returns c = simp (c.rest.ensures, c.lean.ensures, c.sense.ensures, c.greater.ensures, c.lesser.ensures, c.side-sx.ensures, c.side-sy.ensures)

@@ -21,20 +21,14 @@ returns-then-x c = zero-case c.args.x (at_zero c.args.x _ c.if-x.true)
 
 pub returns-then-magnitude : goal.returns-then-magnitude
 returns-then-magnitude c =
-    let c5 = c in
-    let c4 = c5 in
-    let c3 = c4 in
-    let c2 = c3 in
-    let c1 = c2 in
-    let x = c1.args.x in
+    let x = c.args.x in
     c.not_above.ensures
-    ∙ small-case x c5.moved.result
-    (c5.moved.ensures ∙ ap (λ (far : Float). (x ⊕ far) ⊖ far) c4.far_from.ensures)
-    (at_zero x _ c1.if-x.false)
-    (at-limit c2.magnitude.result x _ c2.magnitude.ensures c3.if-magnitude.true)
+    ∙ small-case x c.moved.result
+    (c.moved.ensures ∙ ap (λ (far : Float). (x ⊕ far) ⊖ far) c.far_from.ensures)
+    (at_zero x _ c.if-x.false)
+    (at-limit c.magnitude.result x _ c.magnitude.ensures c.if-magnitude.true)
 
 pub returns : goal.returns
 returns c =
-    let c1 = c in
-    let x = c1.args.x in
-    large-case x (subst T (sym c1.well_formed.0.1) tt) (at-limit c.magnitude.result x _ c.magnitude.ensures c.if-magnitude.false)
+    let x = c.args.x in
+    large-case x (subst T (sym c.well_formed.0.1) tt) (at-limit c.magnitude.result x _ c.magnitude.ensures c.if-magnitude.false)

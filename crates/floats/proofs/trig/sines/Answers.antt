@@ -13,17 +13,14 @@ of-magnitude m x l b e t = ap (λ (y : Float). le y l) (sym e) ∙ t
 pub returns-then-m : goal.returns-then-m
 unfolding wave_of direct_limit dec of_bits round
 returns-then-m c =
-    let c1 = c in
-    simp (of-magnitude c1.magnitude-m.result c1.args.x direct_limit true c1.magnitude-m.ensures c.if-m.true, c.sine_kernel.ensures, c.cosine_kernel.ensures)
+    simp (of-magnitude c.magnitude-m.result c.args.x direct_limit true c.magnitude-m.ensures c.if-m.true, c.sine_kernel.ensures, c.cosine_kernel.ensures)
 
 pub returns : goal.returns
 unfolding wave_of direct_limit angle_limit dec of_bits round
 returns c =
-    let c3 = c in
-    let c1 = c3 in
     simp (
-      of-magnitude c1.magnitude-m.result c1.args.x direct_limit false c1.magnitude-m.ensures c3.if-m.false,
-      c1.magnitude-m.ensures,
+      of-magnitude c.magnitude-m.result c.args.x direct_limit false c.magnitude-m.ensures c.if-m.false,
+      c.magnitude-m.ensures,
       c.quarters-k.ensures,
       c.reduced.ensures,
       c.turned.ensures,

@@ -7,10 +7,8 @@ returns-then-is_one_day c = simp (sym c.is_one_day.ensures, c.if-is_one_day.true
 
 pub returns-then-is_half_day : goal.returns-then-is_half_day
 returns-then-is_half_day c =
-    let c2 = c in
-    simp (sym c2.is_one_day.ensures, c2.if-is_one_day.false, sym c.is_half_day.ensures, c.if-is_half_day.true)
+    simp (sym c.is_one_day.ensures, c.if-is_one_day.false, sym c.is_half_day.ensures, c.if-is_half_day.true)
 
 pub returns : goal.returns
 returns c =
-    let c2 = c in
-    simp (sym c2.is_one_day.ensures, c2.if-is_one_day.false, sym c.is_half_day.ensures, c.if-is_half_day.false)
+    simp (sym c.is_one_day.ensures, c.if-is_one_day.false, sym c.is_half_day.ensures, c.if-is_half_day.false)

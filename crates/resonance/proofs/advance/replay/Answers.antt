@@ -20,7 +20,7 @@ whole c =
     ∙ replay-walk a.c a.mean_motion_0 a.lambda_0 a.stored (sym c.is_placed.ensures ∙ c.if-not-is_placed.false)
 
 pub returns-then-not-is_placed : goal.returns-then-not-is_placed
-returns-then-not-is_placed c = replay-not _ _ _ _ ((sym c.is_placed.ensures ∙ c.if-not-is_placed.true))
+returns-then-not-is_placed c = replay-not _ _ _ _ (sym c.is_placed.ensures ∙ c.if-not-is_placed.true)
 
 pub walk-requires : goal.walk-requires
 walk-requires c =

@@ -14,21 +14,21 @@ third a ok b a' b' v p q h = sym (ap₂ (λ (x y : Bool). x && ok && y) p q) ∙
 
 pub returns-then-not-is_finite : goal.returns-then-not-is_finite
 unfolding numbers_refusal
-returns-then-not-is_finite c = picked _ _ _ false _ _ ((sym c.is_finite.ensures ∙ c.if-not-is_finite.true)) refl refl
+returns-then-not-is_finite c = picked _ _ _ false _ _ (sym c.is_finite.ensures ∙ c.if-not-is_finite.true) refl refl
 
 pub returns-then-not-is_within : goal.returns-then-not-is_within
 unfolding numbers_refusal
 returns-then-not-is_within c =
-    picked _ _ _ true false _ ((sym c.is_finite.ensures ∙ c.if-not-is_finite.false)) ((sym c.is_within.ensures ∙ c.if-not-is_within.true)) refl
+    picked _ _ _ true false _ (sym c.is_finite.ensures ∙ c.if-not-is_finite.false) (sym c.is_within.ensures ∙ c.if-not-is_within.true) refl
 
 pub returns-then-not-is_finite-is_state_finite : goal.returns-then-not-is_finite-is_state_finite
 unfolding numbers_refusal
 returns-then-not-is_finite-is_state_finite c =
-    picked _ _ _ true true false ((sym c.is_finite.ensures ∙ c.if-not-is_finite.false)) ((sym c.is_within.ensures ∙ c.if-not-is_within.false))
+    picked _ _ _ true true false (sym c.is_finite.ensures ∙ c.if-not-is_finite.false) (sym c.is_within.ensures ∙ c.if-not-is_within.false)
     (third c.is_finite-2.result c.args.is_state_finite c.is_finite-3.result _ _ false c.is_finite-2.ensures c.is_finite-3.ensures (c.if-not-is_finite-is_state_finite.true))
 
 pub returns : goal.returns
 unfolding numbers_refusal
 returns c =
-    picked _ _ _ true true true ((sym c.is_finite.ensures ∙ c.if-not-is_finite.false)) ((sym c.is_within.ensures ∙ c.if-not-is_within.false))
+    picked _ _ _ true true true (sym c.is_finite.ensures ∙ c.if-not-is_finite.false) (sym c.is_within.ensures ∙ c.if-not-is_within.false)
     (third c.is_finite-2.result c.args.is_state_finite c.is_finite-3.result _ _ true c.is_finite-2.ensures c.is_finite-3.ensures (c.if-not-is_finite-is_state_finite.false))

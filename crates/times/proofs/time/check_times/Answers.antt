@@ -1,6 +1,5 @@
 -- `times::time::check_times` meets its contract: each test is what its callee says. Assumes nothing.
-use mathlib.Core.Path.{◌∙◌}
-use mathlib.Core.Path.{◌≡◌, sym, subst, ap₂}
+use mathlib.Core.Path.{◌∙◌, ◌≡◌, sym, subst, ap₂}
 use mathlib.Core.Bool.{Bool, true, false, ◌&&◌}
 use lib.Dec.{T}
 use lib.Ieee.Scale.{finite}
@@ -26,7 +25,7 @@ both c = ap₂ (λ (a b : Bool). a && b) c.is_same_way.ensures c.is_not_earlier.
 
 pub returns-then-not-is_finite : goal.returns-then-not-is_finite
 unfolding refusal
-returns-then-not-is_finite c = simp ((sym c.is_finite.ensures ∙ c.if-not-is_finite.true))
+returns-then-not-is_finite c = simp (sym c.is_finite.ensures ∙ c.if-not-is_finite.true)
 
 pub returns-then-not-is_within : goal.returns-then-not-is_within
 unfolding refusal

@@ -17,7 +17,7 @@ whole c =
 
 pub returns-then-not-is_placed : goal.returns-then-not-is_placed
 unfolding placed_step
-returns-then-not-is_placed c = simp ((sym c.is_placed.ensures ∙ c.if-not-is_placed.true))
+returns-then-not-is_placed c = simp (sym c.is_placed.ensures ∙ c.if-not-is_placed.true)
 
 pub returns-in-Some : goal.returns-in-Some
 returns-in-Some c =

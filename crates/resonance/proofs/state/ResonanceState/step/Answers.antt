@@ -15,8 +15,7 @@ test c = ap₂ (λ (x y : Bool). x && y) c.is_finite.ensures c.is_finite-2.ensur
 whole : (c : Else-not-is_finite) → let a = c.args in stepped_by a.constants.orbit_0 a.back a.self a.constants.resonant ≡ stepped a.constants a.back a.self
 unfolding stepped
 whole c =
-    let c1 = c in
-    let a = c1.args in
+    let a = c.args in
     let p : (finite_constants a.constants && finite_state a.self) ≡ true = (sym (ap₂ (λ (x y : Bool). x && y) c.is_finite.ensures c.is_finite-2.ensures) ∙ c.if-not-is_finite.false) in
     rw p
 
