@@ -14,8 +14,7 @@ use Rattle.orbit.specs.declared.propagator.Resonant.TheVariants.{No, Yes}
 use Rattle.orbit.specs.declared.propagator.Constants.{Constants}
 use Rattle.record.specs.Record.{kind_of, common_of, tail_of, numbers_of, constants_of, resonant_of, place}
 use Rattle.resonance.specs.declared.state.ResonanceState.{ResonanceState}
-use Rattle.resonance.specs.declared.state.MaybeState.{MaybeState}
-use Rattle.resonance.specs.declared.state.MaybeState.TheVariants.{None, Some}
+use Rattle.std.specs.Prelude.{Option, Some, None}
 use Rattle.record.proofs.Back.{back}
 use Rattle.body.specs.Floats.{float_at, floats, float_bytes}
 use Rattle.body.specs.Body.{number_count, state_start, size_of, leading, state_numbers, body_numbers, body_of}
@@ -36,7 +35,7 @@ held-rest : (xs ys : List Float) → Held (xs ++ ys) → Held ys
 held-rest [] ys h = h
 held-rest (x ∷ xs) ys h = held-rest xs ys h.1
 
-module _ (c : Constants) (s : MaybeState) (h : Held (body_numbers c s)) where
+module _ (c : Constants) (s : Option ResonanceState) (h : Held (body_numbers c s)) where
   -- the body, with what stands before the state
   split : body_of c s ≡ leading (kind_of c.resonant) c.afspc_compatibility_mode ++ (float_bytes (own c) ++ float_bytes (state_numbers s))
   unfolding body_of
@@ -73,11 +72,11 @@ own-numbers c (Yes lambda-0 lambda-dot-0 theta_0 (OneDay dr1 dr2 dr3)) flag = re
 own-numbers c (Yes lambda-0 lambda-dot-0 theta_0 (HalfDay d2201 d2211 d3210 d3222 d4410 d4422 d5220 d5232 d5421 d5433 k14)) flag = refl
 
 -- the first two bytes
-kind-in : (c : Constants) (s : MaybeState) → kind_in (body_of c s) ≡ kind_of c.resonant
+kind-in : (c : Constants) (s : Option ResonanceState) → kind_in (body_of c s) ≡ kind_of c.resonant
 unfolding body_of
 kind-in c s = refl
 
-flag-in : (c : Constants) (s : MaybeState) → byte (body_of c s) 1 ≡ cond c.afspc_compatibility_mode 1 0
+flag-in : (c : Constants) (s : Option ResonanceState) → byte (body_of c s) 1 ≡ cond c.afspc_compatibility_mode 1 0
 unfolding body_of
 flag-in c s = refl
 
@@ -85,7 +84,7 @@ flag-back : (f : Bool) → eqb (cond f 1 0) 1 ≡ f
 flag-back true = refl
 flag-back false = refl
 
-constants-back : (c : Constants) (s : MaybeState) → Held (body_numbers c s) → constants_in (body_of c s) ≡ c
+constants-back : (c : Constants) (s : Option ResonanceState) → Held (body_numbers c s) → constants_in (body_of c s) ≡ c
 constants-back c s h =
     let k = kind_of c.resonant in
     let f = c.afspc_compatibility_mode in
@@ -104,7 +103,7 @@ state-of : (at : ℕ) (b : List ℕ) (z : ResonanceState) → floats 3 at b ≡ 
 unfolding floats
 state-of at b z e = ap (λ (l : List Float). record { t = place l 0; mean_motion = place l 1; lambda = place l 2 }) e
 
-held_back : (b : List ℕ) (r : Resonant) (s : MaybeState) → Fitting r s → floats (length (state_numbers s)) (state_start (kind_of r)) b ≡ state_numbers s → held_at (kind_of r) b ≡ s
+held_back : (b : List ℕ) (r : Resonant) (s : Option ResonanceState) → Fitting r s → floats (length (state_numbers s)) (state_start (kind_of r)) b ≡ state_numbers s → held_at (kind_of r) b ≡ s
 held_back b (No a0) None f e = refl
 held_back b (No a0) (Some z) f e = absurd f
 held_back b (Yes lambda-0 lambda-dot-0 theta_0 r) None f e = absurd f
@@ -113,7 +112,7 @@ held_back b (Yes lambda-0 lambda-dot-0 theta_0 (HalfDay d2201 d2211 d3210 d3222 
 
 -- ---- the shape
 
-size_back : (r : Resonant) (s : MaybeState) → Fitting r s → 8 + 8 * (number_count (kind_of r) + length (state_numbers s)) ≡ size_of (kind_of r)
+size_back : (r : Resonant) (s : Option ResonanceState) → Fitting r s → 8 + 8 * (number_count (kind_of r) + length (state_numbers s)) ≡ size_of (kind_of r)
 size_back (No a0) None f = refl
 size_back (No a0) (Some z) f = absurd f
 size_back (Yes lambda-0 lambda-dot-0 theta_0 r) None f = absurd f
@@ -129,7 +128,7 @@ flag_small : (f : Bool) → leb (cond f 1 0) 1 ≡ true
 flag_small true = refl
 flag_small false = refl
 
-shape-back : (c : Constants) (s : MaybeState) → Fitting c.resonant s → shaped (body_of c s) ≡ true
+shape-back : (c : Constants) (s : Option ResonanceState) → Fitting c.resonant s → shaped (body_of c s) ≡ true
 unfolding body_of
 shape-back c s f =
     shape c.resonant c.afspc_compatibility_mode (body_numbers c s) (length-body c s ∙ size_back c.resonant s f)

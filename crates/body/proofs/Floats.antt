@@ -1,14 +1,18 @@
 -- The laws of floats as bytes: one more is written or read, and what was written is read back. Assumes nothing.
-use mathlib.Core.Path.{◌≡◌, refl, sym, ap, ◌∙◌}
+use mathlib.Core.Path.{◌≡◌, refl, sym, ap, ◌∙◌, subst}
 use mathlib.Core.List.{List, [], ◌∷◌, ◌++◌, append_assoc}
 use Prim.Native.Nat.{ℕ, zero, suc, ◌+◌, ◌*◌, ◌≤◌, ◌<◌}
 use native.Mathlib.Nat.{add-zero, mul-zero}
 use native.Mathlib.Numerals.{add-one}
 use native.Mathlib.Omega.{arith}
-use lib.Dec.{T}
-use lib.ListN.{length, take, drop, get_or, set, length-append}
-use lib.Seq.{drop-cons, drop_at, take-suc-set, drop-length}
-use lib.Ieee.{Float, binary64, of_bits, to_bits, fits}
+use mathlib.Core.Bool.{Bool, true, false}
+use denote.Param.Members.{Mut, Called}
+use borrow.Author.Tests.{eqb-true, eqb-false}
+use Rattle.std.specs.Array.{IsFromFnResultFrom, IsFromFnResult}
+use lib.Dec.{T, eqb}
+use lib.ListN.{length, drop, get_or, length-append}
+use lib.Seq.{drop-cons, drop_at, drop-length}
+use lib.Ieee.{Float, nan, binary64, of_bits, to_bits, fits}
 use lib.Ieee.Bits.{of_bits-to_bits, to_bits-lt}
 use Rattle.contents.specs.LittleEndian.{le, le_bytes}
 use Rattle.contents.specs.Laid.{laid, laid_inside}
@@ -49,19 +53,34 @@ laid_end at i xs l e = simp (e, drop-length, laid_nil)
 
 -- ---- read
 
--- one float more
-floats-more : (n at : ℕ) (s : List ℕ) → floats (suc n) at s ≡ floats n at s ++ (float_at (at + 8 * n) s ∷ [])
-unfolding floats
-floats-more zero at s = simp (mul-zero, add-zero)
-floats-more (suc n) at s =
-    let e : at + 8 + 8 * n ≡ at + 8 * suc n = omega arith in
-    ap (λ (r : List Float). float_at at s ∷ r) (floats-more n (at + 8) s ∙ simp e)
+-- an array that a closure made, which keeps what it holds: what a call gives is at each place
+module _ {F B : Type 0} (g : Mut F (ℕ × Unit {0}) B) (P : ℕ → B → Type 0) (f : F)
+    (step : (i : ℕ) (y : B) (q : F) → Called g f (i, tt) y q → P i y × (q ≡ f)) (ys : List B) (d : B) where
+  each-from : (n i : ℕ) → IsFromFnResultFrom g f ys i n → (k : ℕ) → i ≤ k → k < i + n → P k (get_or ys k d)
+  each-from zero i h k a b = absurd (omega arith)
+  each-from (suc n) i h k a b =
+      let s = step i h.1 h.0 h.3 in
+      let r : IsFromFnResultFrom g f ys (i + 1) n = subst (λ (q : F). IsFromFnResultFrom g q ys (i + 1) n) s.1 h.4 in
+      go (eqb i k) refl (subst (P i) (sym (h.2.1 d)) s.0) (each-from n (i + 1) r k)
+    where
+      go : (t : Bool) → eqb i k ≡ t → P i (get_or ys i d) → (i + 1 ≤ k → k < i + 1 + n → P k (get_or ys k d)) → P k (get_or ys k d)
+      go true u p r = subst (λ (j : ℕ). P j (get_or ys j d)) (eqb-true _ _ u) p
+      go false u p r = let e = eqb-false _ _ u in r (omega arith) (omega arith)
 
-pub read_float : (at i : ℕ) (s : List ℕ) (xs : List Float) {x : Float} → i < length xs → take i xs ≡ floats i at s → x ≡ float_at (at + 8 * i) s
-    → take (i + 1) (set xs i x) ≡ floats (i + 1) at s
-read_float at i s xs {x} h p e =
-    let m : floats (suc i) at s ≡ take i xs ++ (x ∷ []) = floats-more i at s ∙ simp (p, e) in
-    simp add-one (take-suc-set xs i x h ∙ sym m)
+  pub made-each : (n : ℕ) → IsFromFnResult g f ys n → (k : ℕ) → k < n → P k (get_or ys k d)
+  made-each n h k a = each-from n 0 h.each k (omega arith) (omega arith)
+
+-- floats that are each read at their place
+pub floats-of : (n at : ℕ) (s : List ℕ) (xs : List Float) → length xs ≡ n → ((i : ℕ) → i < n → get_or xs i nan ≡ float_at (at + 8 * i) s) → xs ≡ floats n at s
+unfolding floats
+floats-of zero at s [] l h = refl
+floats-of zero at s (x ∷ xs) l h = absurd (omega arith)
+floats-of (suc n) at s [] l h = absurd (omega arith)
+floats-of (suc n) at s (x ∷ xs) l h =
+    let e : x ≡ float_at at s = h 0 (omega arith) ∙ simp (mul-zero, add-zero) in
+    let next : (i : ℕ) → i < n → get_or xs i nan ≡ float_at (at + 8 + 8 * i) s =
+    λ i k. let j : at + 8 * suc i ≡ at + 8 + 8 * i = omega arith in h (suc i) (omega arith) ∙ ap (λ (p : ℕ). float_at p s) j in
+    ap (λ (y : Float). y ∷ xs) e ∙ ap (λ (r : List Float). float_at at s ∷ r) (floats-of n (at + 8) s xs (omega arith) next)
 
 -- ---- what was written is read back
 

@@ -9,11 +9,10 @@
 -- 280     24     kind 2: the same
 --
 -- So a body has 176, 240 or 304 bytes. It may start at any address.
-use Rattle.std.specs.Prelude.{ℕ, ◌+◌, ◌*◌, Bool, cond, List, [], ◌∷◌, ◌++◌, eqb, take, Float}
+use Rattle.std.specs.Prelude.{ℕ, ◌+◌, ◌*◌, Bool, cond, List, [], ◌∷◌, ◌++◌, eqb, take, Float, Option, Some, None}
 use Rattle.orbit.specs.declared.propagator.Constants.{Constants}
 use Rattle.record.specs.Record.{kind_of, numbers_of}
-use Rattle.resonance.specs.declared.state.MaybeState.{MaybeState}
-use Rattle.resonance.specs.declared.state.MaybeState.TheVariants.{None, Some}
+use Rattle.resonance.specs.declared.state.ResonanceState.{ResonanceState}
 use Rattle.body.specs.Floats.{float_bytes}
 
 -- where the numbers begin
@@ -42,18 +41,14 @@ longest = 304
 abbrev pub leading : ℕ → Bool → List ℕ
 leading kind afspc = kind ∷ cond afspc 1 0 ∷ 0 ∷ 0 ∷ 0 ∷ 0 ∷ 0 ∷ 0 ∷ []
 
--- the same as a number, its lowest byte first
-abbrev pub first_word : ℕ → Bool → ℕ
-first_word kind afspc = cond afspc (kind + 256) kind
-
-abbrev pub state_numbers : MaybeState → List Float
+abbrev pub state_numbers : Option ResonanceState → List Float
 state_numbers None = []
 state_numbers (Some z) = z.t ∷ z.mean_motion ∷ z.lambda ∷ []
 
 -- the numbers of a body: those of the constants, and then those of the state
-abbrev pub body_numbers : Constants → MaybeState → List Float
+abbrev pub body_numbers : Constants → Option ResonanceState → List Float
 body_numbers c s = take (number_count (kind_of c.resonant)) (numbers_of c) ++ state_numbers s
 
 -- the body of constants with none or a state
-unfoldable pub body_of : Constants → MaybeState → List ℕ
+unfoldable pub body_of : Constants → Option ResonanceState → List ℕ
 body_of c s = leading (kind_of c.resonant) c.afspc_compatibility_mode ++ float_bytes (body_numbers c s)

@@ -4,10 +4,10 @@ ghost use Rattle.body.specs.Body.{size_of, state_start};
 ghost use Rattle.body.specs.Read.{shaped, state_at, held_at, body_read};
 
 use crate::bytes::{NUMBERS, number_count};
-use crate::examine::{Body, examine};
+use crate::examine::{BodyError, Record, examine};
 use crate::floats_at::{f64_at, floats_34};
 use record::constants_of;
-use resonance::state::{MaybeState, ResonanceState};
+use resonance::state::ResonanceState;
 
 // Where the state of a body begins, or its end where it has none.
 pub fn state_start(kind: u32) -> usize
@@ -34,15 +34,7 @@ pub fn is_shaped(body: &[u8]) -> bool
         return false;
     }
     let size = size_of(body[0] as u32);
-    (body.len() == size)
-        & (body[0] <= 2)
-        & (body[1] <= 1)
-        & (body[2] == 0)
-        & (body[3] == 0)
-        & (body[4] == 0)
-        & (body[5] == 0)
-        & (body[6] == 0)
-        & (body[7] == 0)
+    (body.len() == size) & (body[0] <= 2) & (body[1] <= 1) & body[2..].starts_with(&[0; 6])
 }
 
 // The state whose three numbers stand from `at` on.
@@ -58,21 +50,22 @@ fn state_at(body: &[u8], at: usize) -> ResonanceState
 }
 
 // The state of a body of a kind, and none of a non-resonant one.
-fn held_at(body: &[u8], kind: u32) -> MaybeState
+fn held_at(body: &[u8], kind: u32) -> Option<ResonanceState>
     ensures { result ≡ held_at kind body.now }
 {
     if kind == 0 {
-        return MaybeState::None;
+        return None;
     }
-    MaybeState::Some(state_at(body, state_start(kind)))
+    Some(state_at(body, state_start(kind)))
 }
 
 // What a body says, where it passes 16, 17 and 18.
-pub fn read_body(body: &[u8]) -> Body
+#[tactic(auto, unfolding(crate::specs::Read::body_read))]
+pub fn read_body(body: &[u8]) -> Result<Record, BodyError>
     ensures { result ≡ body_read body.now }
 {
     if !is_shaped(body) {
-        return Body::Wrong;
+        return Err(BodyError::Wrong);
     }
     let kind = body[0] as u32;
     let x = floats_34(body, NUMBERS);

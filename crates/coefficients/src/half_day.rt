@@ -1,4 +1,5 @@
-// The eleven coefficients of the half-day resonance.
+// The eleven coefficients of the half-day resonance. Sine, p₁ and e₀ come to most of them, and stay numbers: a struct
+// of the three makes no call shorter, and each formula longer.
 ghost use Rattle.std.specs.Prelude.{◌≡◌};
 ghost use Rattle.coefficients.specs.HalfDay.{p18 as p18_of, f220 as f220_of, d2201 as d2201_of, d2211 as d2211_of, d3210 as d3210_of, d3222 as d3222_of, d4410 as d4410_of, d4422 as d4422_of, d5220 as d5220_of, d5232 as d5232_of, d5421 as d5421_of, d5433 as d5433_of, coefficients as coefficients_of};
 

@@ -1,9 +1,8 @@
 -- The build of an orbit's constants. Definitions only. Assumes nothing.
-use Rattle.std.specs.Prelude.{ℕ, Bool, cond, ◌&&◌, Float}
+use Rattle.std.specs.Prelude.{ℕ, Bool, cond, ◌&&◌, Float, Option, Some, None, Result, Ok, Err}
+use Rattle.std.specs.Option.{option_map}
 use Rattle.floats.specs.Rounded.{◌⊕◌}
 use Rattle.floats.specs.Trig.{sine_of}
-use Rattle.floats.specs.declared.trig.Trig.{Trig}
-use Rattle.floats.specs.declared.trig.Trig.TheVariants.{Of as sine-is, Outside as no-sine}
 use Rattle.orbit.specs.Model.{theta_0, finite_geopotential}
 use Rattle.orbit.specs.Class.{class_of}
 use Rattle.orbit.specs.Propagator.{finite_orbit, finite_constants}
@@ -21,17 +20,14 @@ use Rattle.constants.specs.Given.{finite_given, finite_dots, sum}
 use Rattle.constants.specs.Longitude.{one_day_lambda_0, one_day_lambda_dot_0, half_day_lambda_0, half_day_lambda_dot_0}
 use Rattle.constants.specs.declared.given.Given.{Given}
 use Rattle.constants.specs.declared.given.Dots.{Dots}
-use Rattle.constants.specs.declared.build.Built.{Built}
-use Rattle.constants.specs.declared.build.Built.TheVariants.{Of, NumberNotFinite, AngleOutside, NotFinite}
-use Rattle.constants.specs.declared.build.Kind.{Kind}
-use Rattle.constants.specs.declared.build.Kind.TheVariants.{Of as kind-is, AngleOutside as no-angle}
+use Rattle.constants.specs.Error.{number as error_number}
+use Rattle.constants.specs.declared.error.BuildError.{BuildError}
+use Rattle.constants.specs.declared.error.BuildError.TheVariants.{NumberNotFinite, AngleOutside, NotFinite}
 
 -- document 01's number of an answer: 0 where there are constants
-abbrev pub number : Built → ℕ
-number (Of c) = 0
-number NumberNotFinite = 3
-number AngleOutside = 9
-number NotFinite = 13
+abbrev pub number : Result Constants BuildError → ℕ
+number (Ok c) = 0
+number (Err e) = error_number e
 
 -- every number given is finite, used or not
 unfoldable pub all_finite : Geopotential → Orbit → Given → Dots → Dots → Bool
@@ -49,19 +45,15 @@ abbrev pub half_day_resonant : Orbit → Given → Dots → Float → Float → 
 half_day_resonant o g d theta s =
     Yes (half_day_lambda_0 o theta) (half_day_lambda_dot_0 o g d) theta (Half.coefficients o g.p1 g.a0 g.k14 s)
 
--- 9 where the sine of the inclination is refused
-abbrev pub kind_by : (Float → Resonant) → Trig → Kind
-kind_by f (sine-is s) = kind-is (f s)
-kind_by f no-sine = no-angle
-
--- a non-resonant orbit keeps a0, and takes neither a sine nor a sidereal time
-abbrev pub kind_at : SiderealTime → Orbit → Given → Dots → Class → Kind
-kind_at which o g d NonResonant = kind-is (No g.a0)
-kind_at which o g d OneDay = kind_by (one_day_resonant o g d (theta_0 which g.epoch)) (sine_of o.inclination)
-kind_at which o g d HalfDay = kind_by (half_day_resonant o g d (theta_0 which g.epoch)) (sine_of o.inclination)
+-- a non-resonant orbit keeps a0, and takes neither a sine nor a sidereal time; a resonant one has no kind, by which 9 is given, where the sine of its
+-- inclination is refused
+abbrev pub kind_at : SiderealTime → Orbit → Given → Dots → Class → Option Resonant
+kind_at which o g d NonResonant = Some (No g.a0)
+kind_at which o g d OneDay = option_map (one_day_resonant o g d (theta_0 which g.epoch)) (sine_of o.inclination)
+kind_at which o g d HalfDay = option_map (half_day_resonant o g d (theta_0 which g.epoch)) (sine_of o.inclination)
 
 -- by the class of the orbit: n and e are those of orbit_0
-unfoldable pub kind_of : SiderealTime → Orbit → Given → Dots → Kind
+unfoldable pub kind_of : SiderealTime → Orbit → Given → Dots → Option Resonant
 kind_of which o g d = kind_at which o g d (class_of o.mean_motion o.eccentricity)
 
 -- ---- the answer: 3, 9, 13 in that order
@@ -86,15 +78,15 @@ constants_of geo o g d flag r =
     }
 
 -- 13 where a number of the constants is not finite: those given are finite by then, so it is one that was built
-unfoldable pub checked : Constants → Built
-checked c = cond (finite_constants c) (Of c) NotFinite
+unfoldable pub checked : Constants → Result Constants BuildError
+checked c = cond (finite_constants c) (Ok c) (Err NotFinite)
 
 -- 9 where the kind needs a sine that is refused: no constants
-abbrev pub built_by : Geopotential → Orbit → Given → Dots → Bool → Kind → Built
-built_by geo o g d flag (kind-is r) = checked (constants_of geo o g d flag r)
-built_by geo o g d flag no-angle = AngleOutside
+abbrev pub built_by : Geopotential → Orbit → Given → Dots → Bool → Option Resonant → Result Constants BuildError
+built_by geo o g d flag (Some r) = checked (constants_of geo o g d flag r)
+built_by geo o g d flag None = Err AngleOutside
 
 -- 3 where a number given is not finite
-unfoldable pub built_of : Geopotential → SiderealTime → Orbit → Given → Dots → Dots → Bool → Built
+unfoldable pub built_of : Geopotential → SiderealTime → Orbit → Given → Dots → Dots → Bool → Result Constants BuildError
 built_of geo which o g s m flag =
-    cond (all_finite geo o g s m) (built_by geo o g (sum s m) flag (kind_of which o g (sum s m))) NumberNotFinite
+    cond (all_finite geo o g s m) (built_by geo o g (sum s m) flag (kind_of which o g (sum s m))) (Err NumberNotFinite)

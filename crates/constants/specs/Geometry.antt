@@ -1,28 +1,25 @@
 -- Solar and lunar geometry, from the right ascension of an orbit and the epoch. Definitions only. Assumes nothing.
-use Rattle.std.specs.Prelude.{ℕ, Bool, cond, ◌&&◌, Float}
+use Rattle.std.specs.Prelude.{ℕ, Bool, cond, ◌&&◌, Float, Option, Some, None, Result, Ok, Err}
+use Rattle.std.specs.Option.{option_map, option_and_then}
 use Rattle.std.specs.Float.Ieee.Scale.{finite}
 use Rattle.floats.specs.Rounded.{◌⊕◌, ◌⊖◌, ◌⊗◌, ◌⊘◌, ◌rem◌, ⊝◌, dec}
 use Rattle.floats.specs.Power.{sq}
 use Rattle.floats.specs.Root.{sqrt_of}
-use Rattle.floats.specs.Trig.{wave_of}
+use Rattle.floats.specs.Trig.{sin_cos_of}
 use Rattle.floats.specs.Atan.{arc_of}
-use Rattle.floats.specs.declared.root.Root.{Root}
-use Rattle.floats.specs.declared.root.Root.TheVariants.{Of as root, Outside as no-root}
-use Rattle.floats.specs.declared.trig.Wave.{Wave}
+use Rattle.floats.specs.declared.trig.SinCos.{SinCos}
 use Rattle.orbit.specs.Model.{tau}
 use Rattle.constants.specs.declared.geometry.ThirdBody.{ThirdBody}
-use Rattle.constants.specs.declared.geometry.Geometry.{Geometry}
-use Rattle.constants.specs.declared.geometry.Geometry.TheVariants.{Of, NumberNotFinite, AngleOutside, NotFinite}
+use Rattle.constants.specs.declared.geometry.Bodies.{Bodies}
 use Rattle.constants.specs.declared.geometry.Plane.{Plane}
-use Rattle.constants.specs.declared.geometry.Tilt.{Tilt}
-use Rattle.constants.specs.declared.geometry.Tilt.TheVariants.{Of as tilted, NoRoot}
+use Rattle.constants.specs.Error.{number as error_number}
+use Rattle.constants.specs.declared.error.BuildError.{BuildError}
+use Rattle.constants.specs.declared.error.BuildError.TheVariants.{NumberNotFinite, AngleOutside, NotFinite}
 
 -- document 01's number of an answer: 0 where there is a geometry
-abbrev pub number : Geometry → ℕ
-number (Of b) = 0
-number NumberNotFinite = 3
-number AngleOutside = 9
-number NotFinite = 13
+abbrev pub number : Result Bodies BuildError → ℕ
+number (Ok b) = 0
+number (Err e) = error_number e
 
 -- ---- angles of the epoch
 
@@ -49,40 +46,33 @@ unfoldable pub inclination_cosine : Float → Float
 inclination_cosine x = dec 91375164 8 ⊖ dec 3568096 8 ⊗ x
 
 -- the square root of 1 - x²
-unfoldable pub complement : Float → Root
+unfoldable pub complement : Float → Option Float
 complement x = sqrt_of (dec 1 0 ⊖ sq x)
 
 -- sin Ωₗ
 unfoldable pub node_sine : Float → Float → Float
 node_sine epsilon-sine inclination-sine = dec 89683511 9 ⊗ epsilon-sine ⊘ inclination-sine
 
--- cos Ωₗ by its root, where there is one
-abbrev pub plane_by : Float → Float → Float → Root → Tilt
-plane_by cI sI sR (root cR) =
-    tilted
-    (record {
+-- with cos Iₗ, sin Iₗ, sin Ωₗ and cos Ωₗ
+abbrev pub plane_by : Float → Float → Float → Float → Plane
+plane_by cI sI sR cR =
+    record {
       inclination_sine = sI;
       inclination_cosine = cI;
       right_ascension_sine = sR;
       right_ascension_cosine = cR;
-    })
-plane_by cI sI sR no-root = NoRoot
+    }
 
--- with cos Iₗ and sin Iₗ: sin Ωₗ, and cos Ωₗ by a root
-unfoldable pub plane_of : Wave → Float → Float → Tilt
-plane_of e cI sI = let sR = node_sine e.sin sI in plane_by cI sI sR (complement sR)
+-- with cos Iₗ and sin Iₗ: sin Ωₗ, and cos Ωₗ by its root, where there is one
+unfoldable pub plane_of : SinCos → Float → Float → Option Plane
+plane_of e cI sI = let sR = node_sine e.sin sI in option_map (plane_by cI sI sR) (complement sR)
 
--- sin Iₗ by its root, where there is one
-abbrev pub tilt_by : Wave → Float → Root → Tilt
-tilt_by e cI (root sI) = plane_of e cI sI
-tilt_by e cI no-root = NoRoot
-
--- cos Iₗ, and sin Iₗ by a root
-unfoldable pub tilt_of : Wave → Tilt
-tilt_of e = let cI = inclination_cosine e.cos in tilt_by e cI (complement cI)
+-- cos Iₗ, and sin Iₗ by its root, where there is one
+unfoldable pub tilt_of : SinCos → Option Plane
+tilt_of e = let cI = inclination_cosine e.cos in option_and_then (plane_of e cI) (complement cI)
 
 -- ωₗ
-unfoldable pub perigee : Float → Float → Wave → Plane → Float
+unfoldable pub perigee : Float → Float → SinCos → Plane → Float
 perigee d epsilon e p =
     dec 58351514 7
     ⊕ dec 1944368 9 ⊗ d
@@ -94,7 +84,7 @@ perigee d epsilon e p =
 -- ---- the two bodies
 
 -- the Sun, from the sine and cosine of Ω₀
-unfoldable pub sun : Float → Wave → ThirdBody
+unfoldable pub sun : Float → SinCos → ThirdBody
 sun d node =
     record {
       inclination_sine = dec 39785416 8;
@@ -107,7 +97,7 @@ sun d node =
     }
 
 -- the Moon, from the sines and cosines of Ω₀ and ωₗ and how its orbit lies
-unfoldable pub moon : Float → Wave → Plane → Wave → ThirdBody
+unfoldable pub moon : Float → SinCos → Plane → SinCos → ThirdBody
 moon d node p w =
     record {
       inclination_sine = p.inclination_sine;
@@ -131,32 +121,31 @@ finite_body b =
     && finite b.mean_anomaly_0
 
 -- 13 where one of the fourteen numbers is not finite
-abbrev pub bodies_by : ThirdBody → ThirdBody → Geometry
-bodies_by s m = cond (finite_body s && finite_body m) (Of (record { solar = s; lunar = m })) NotFinite
+abbrev pub bodies_by : ThirdBody → ThirdBody → Result Bodies BuildError
+bodies_by s m = cond (finite_body s && finite_body m) (Ok (record { solar = s; lunar = m })) (Err NotFinite)
 
 -- ---- the answer: 3, 9, 13 in that order
 
 -- 9 where ωₗ is refused
-abbrev pub bodies_of : Float → Wave → Plane → Wave → Geometry
-bodies_of d node p w = cond w.ok (bodies_by (sun d node) (moon d node p w)) AngleOutside
+abbrev pub bodies_of : Float → SinCos → Plane → Option SinCos → Result Bodies BuildError
+bodies_of d node p (Some w) = bodies_by (sun d node) (moon d node p w)
+bodies_of d node p None = Err AngleOutside
 
 -- 13 where a root is refused: the sine of ωₗ is then not taken
-abbrev pub placed_by : Float → Float → Wave → Wave → Tilt → Geometry
-placed_by d epsilon node e (tilted p) = bodies_of d node p (wave_of (perigee d epsilon e p))
-placed_by d epsilon node e NoRoot = NotFinite
-
--- with how the Moon's orbit lies
-abbrev pub placed_of : Float → Float → Wave → Wave → Geometry
-placed_of d epsilon node e = placed_by d epsilon node e (tilt_of e)
+abbrev pub placed_by : Float → Float → SinCos → SinCos → Option Plane → Result Bodies BuildError
+placed_by d epsilon node e (Some p) = bodies_of d node p (sin_cos_of (perigee d epsilon e p))
+placed_by d epsilon node e None = Err NotFinite
 
 -- 9 where Ω₀ or Ωₗₑ is refused
-abbrev pub angled_by : Float → Float → Wave → Wave → Geometry
-angled_by d epsilon node e = cond (node.ok && e.ok) (placed_of d epsilon node e) AngleOutside
+abbrev pub angled_by : Float → Float → Option SinCos → Option SinCos → Result Bodies BuildError
+angled_by d epsilon (Some node) (Some e) = placed_by d epsilon node e (tilt_of e)
+angled_by d epsilon (Some node) None = Err AngleOutside
+angled_by d epsilon None e = Err AngleOutside
 
 -- with the sines and cosines of Ω₀ and Ωₗₑ
-abbrev pub angled : Float → Float → Geometry
-angled Ω d = angled_by d (lunar_epsilon d) (wave_of Ω) (wave_of (lunar_epsilon d))
+abbrev pub angled : Float → Float → Result Bodies BuildError
+angled Ω d = angled_by d (lunar_epsilon d) (sin_cos_of Ω) (sin_cos_of (lunar_epsilon d))
 
 -- 3 where the right ascension or the epoch is not finite
-abbrev pub geometry_of : Float → Float → Geometry
-geometry_of Ω epoch = cond (finite Ω && finite epoch) (angled Ω (days epoch)) NumberNotFinite
+abbrev pub geometry_of : Float → Float → Result Bodies BuildError
+geometry_of Ω epoch = cond (finite Ω && finite epoch) (angled Ω (days epoch)) (Err NumberNotFinite)

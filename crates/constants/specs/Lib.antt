@@ -1,3 +1,4 @@
+pub mod Error
 pub mod Geometry
 pub mod Given
 pub mod Longitude

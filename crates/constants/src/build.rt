@@ -2,33 +2,19 @@
 ghost use Rattle.std.specs.Prelude.{◌≡◌};
 ghost use Rattle.constants.specs.Build.{all_finite, one_day_resonant, half_day_resonant, kind_of, constants_of, built_of};
 
+use crate::error::BuildError;
 use crate::given::{Dots, Given, sum};
 use crate::longitude::{
     half_day_lambda_0, half_day_lambda_dot_0, one_day_lambda_0, one_day_lambda_dot_0,
 };
 use coefficients::{half_day, one_day};
-use floats::trig::{Trig, sin};
+use floats::trig::sin;
 use orbit::class::{Class, class_of};
 use orbit::model::{Geopotential, SiderealTime, epoch_to_sidereal_time};
 use orbit::propagator::{Constants, Orbit, Resonant};
 
-// The answer of a build.
-#[derive(Clone, Copy)]
-pub enum Built {
-    Of(Constants),
-    NumberNotFinite, // refusal 3
-    AngleOutside, // refusal 9
-    NotFinite, // refusal 13
-}
-
-// The kind that the constants carry, unless it needs a sine that is refused.
-#[derive(Clone, Copy)]
-enum Kind {
-    Of(Resonant),
-    AngleOutside,
-}
-
 // Whether every number given is finite, used or not.
+#[tactic(auto, unfolding(crate::specs::Build::all_finite))]
 fn is_finite(
     geopotential: Geopotential,
     orbit_0: Orbit,
@@ -45,7 +31,8 @@ fn is_finite(
         & lunar.is_finite()
 }
 
-// A one-day orbit, from the sine of its inclination and the sidereal time.
+// A one-day orbit, from the sine of its inclination and the sidereal time. (Orbit, numbers given and
+// rates come one by one, as the Rust has them: each function would only take a struct of the three apart.)
 fn one_day_resonant(orbit_0: Orbit, given: Given, dots: Dots, theta: f64, sine: f64) -> Resonant
     ensures { result ≡ one_day_resonant orbit_0 given dots theta sine }
 {
@@ -69,30 +56,29 @@ fn half_day_resonant(orbit_0: Orbit, given: Given, dots: Dots, theta: f64, sine:
     }
 }
 
-// The kind by the class of the orbit: `a0` is kept, or the numbers of its resonance are formed.
-fn kind_of(which: SiderealTime, orbit_0: Orbit, given: Given, dots: Dots) -> Kind
+// The kind by the class of the orbit: `a0` is kept, or the numbers of its resonance are formed. None
+// where that needs a sine that is refused.
+#[tactic(auto, unfolding(crate::specs::Build::kind_of))]
+fn kind_of(which: SiderealTime, orbit_0: Orbit, given: Given, dots: Dots) -> Option<Resonant>
     ensures { result ≡ kind_of which orbit_0 given dots }
 {
     match class_of(orbit_0.mean_motion, orbit_0.eccentricity) {
-        Class::NonResonant => Kind::Of(Resonant::No { a0: given.a0 }),
-        Class::OneDay => match sin(orbit_0.inclination) {
-            Trig::Of(sine) => {
-                let theta = epoch_to_sidereal_time(which, given.epoch);
-                Kind::Of(one_day_resonant(orbit_0, given, dots, theta, sine))
-            }
-            Trig::Outside => Kind::AngleOutside,
-        },
-        Class::HalfDay => match sin(orbit_0.inclination) {
-            Trig::Of(sine) => {
-                let theta = epoch_to_sidereal_time(which, given.epoch);
-                Kind::Of(half_day_resonant(orbit_0, given, dots, theta, sine))
-            }
-            Trig::Outside => Kind::AngleOutside,
-        },
+        Class::NonResonant => Some(Resonant::No { a0: given.a0 }),
+        Class::OneDay => {
+            let sine = sin(orbit_0.inclination)?;
+            let theta = epoch_to_sidereal_time(which, given.epoch);
+            Some(one_day_resonant(orbit_0, given, dots, theta, sine))
+        }
+        Class::HalfDay => {
+            let sine = sin(orbit_0.inclination)?;
+            let theta = epoch_to_sidereal_time(which, given.epoch);
+            Some(half_day_resonant(orbit_0, given, dots, theta, sine))
+        }
     }
 }
 
 // Ω̇ = p₁₄ + (Ω̇ₛ + Ω̇ₗ), ω̇ = k₁₄ + (ω̇ₛ + ω̇ₗ), Ṁ = p₁₅ + (Ṁₛ + Ṁₗ); the rest as given or summed.
+#[tactic(auto, unfolding(crate::specs::Build::constants_of))]
 fn constants(
     geopotential: Geopotential,
     orbit_0: Orbit,
@@ -121,6 +107,7 @@ fn constants(
 }
 
 // The constants of an orbit; the rates of the Sun and of the Moon come from third_body.
+#[tactic(auto, unfolding(crate::specs::Build::built_of, crate::specs::Build::checked))]
 pub fn build(
     geopotential: Geopotential,
     which: SiderealTime,
@@ -129,28 +116,24 @@ pub fn build(
     solar: Dots,
     lunar: Dots,
     afspc_compatibility_mode: bool,
-) -> Built
+) -> Result<Constants, BuildError>
     ensures { result ≡ built_of geopotential which orbit_0 given solar lunar afspc_compatibility_mode }
 {
     if !is_finite(geopotential, orbit_0, given, solar, lunar) {
-        return Built::NumberNotFinite;
+        return Err(BuildError::NumberNotFinite);
     }
     let dots = sum(solar, lunar);
-    match kind_of(which, orbit_0, given, dots) {
-        Kind::Of(resonant) => {
-            let built = constants(
-                geopotential,
-                orbit_0,
-                given,
-                dots,
-                afspc_compatibility_mode,
-                resonant,
-            );
-            if built.is_finite() {
-                return Built::Of(built);
-            }
-            Built::NotFinite
-        }
-        Kind::AngleOutside => Built::AngleOutside,
+    let resonant = kind_of(which, orbit_0, given, dots).ok_or(BuildError::AngleOutside)?;
+    let built = constants(
+        geopotential,
+        orbit_0,
+        given,
+        dots,
+        afspc_compatibility_mode,
+        resonant,
+    );
+    if !built.is_finite() {
+        return Err(BuildError::NotFinite);
     }
+    Ok(built)
 }

@@ -1,19 +1,20 @@
 // Solar and lunar geometry: what `constants` of deep_space.rs passes to third_body for the Sun and
 // for the Moon, beside the numbers that are constants of the Rust.
 ghost use Rattle.std.specs.Prelude.{◌≡◌};
-ghost use Rattle.constants.specs.Geometry.{days, solar_mean_anomaly, lunar_mean_anomaly, lunar_epsilon, inclination_cosine as inclination_cosine_of, complement as complement_of, node_sine, plane_of, tilt_of, perigee, sun, moon, finite_body, bodies_of, placed_of, geometry_of};
+ghost use Rattle.constants.specs.Geometry.{days, solar_mean_anomaly, lunar_mean_anomaly, lunar_epsilon, inclination_cosine as inclination_cosine_of, complement as complement_of, node_sine, plane_of, tilt_of, perigee, sun, moon, finite_body, geometry_of};
 
+use crate::error::BuildError;
 use floats::atan::atan2;
 use floats::finite::is_finite;
 use floats::power::square;
 use floats::remainder::rem;
-use floats::root::{Root, sqrt};
-use floats::trig::{Wave, sines};
+use floats::root::sqrt;
+use floats::trig::{SinCos, sin_cos};
 use orbit::model::TAU;
 
 // A third body: sine and cosine of its inclination, of Ω₀ less its node, and of its argument of
 // perigee; its mean anomaly in rad.
-#[derive(Clone, Copy)]
+#[derive(Clone, Copy, Debug, PartialEq)]
 pub struct ThirdBody {
     pub inclination_sine: f64,
     pub inclination_cosine: f64,
@@ -25,35 +26,19 @@ pub struct ThirdBody {
 }
 
 // The fourteen numbers.
-#[derive(Clone, Copy)]
+#[derive(Clone, Copy, Debug, PartialEq)]
 pub struct Bodies {
     pub solar: ThirdBody,
     pub lunar: ThirdBody,
 }
 
-// The answer of a geometry call.
-#[derive(Clone, Copy)]
-pub enum Geometry {
-    Of(Bodies),
-    NumberNotFinite, // refusal 3
-    AngleOutside, // refusal 9
-    NotFinite, // refusal 13
-}
-
 // How the Moon's orbit lies: sine and cosine of its inclination Iₗ and of its node Ωₗ.
-#[derive(Clone, Copy)]
+#[derive(Clone, Copy, Debug, PartialEq)]
 struct Plane {
     inclination_sine: f64,
     inclination_cosine: f64,
     right_ascension_sine: f64,
     right_ascension_cosine: f64,
-}
-
-// The same, unless a root is refused.
-#[derive(Clone, Copy)]
-enum Tilt {
-    Of(Plane),
-    NoRoot,
 }
 
 // d₁₉₀₀ = 365.25 (y₂₀₀₀ + 100)
@@ -92,7 +77,7 @@ fn lunar_inclination_cosine(epsilon_cosine: f64) -> f64
 }
 
 // (1 - x²)¹ᐟ²: the sine that goes with a cosine, and the cosine with a sine
-fn complement(x: f64) -> Root
+fn complement(x: f64) -> Option<f64>
     ensures { result ≡ complement_of x }
 {
     sqrt(1.0 - square(x))
@@ -105,38 +90,36 @@ fn lunar_right_ascension_sine(epsilon_sine: f64, inclination_sine: f64) -> f64
     0.089683511 * epsilon_sine / inclination_sine
 }
 
-// How the Moon's orbit lies where the sine of its inclination is known.
-fn plane_at(epsilon: Wave, inclination_cosine: f64, inclination_sine: f64) -> Tilt
+// How the Moon's orbit lies where the sine of its inclination is known; none where a root is refused.
+#[tactic(auto, unfolding(crate::specs::Geometry::plane_of))]
+fn plane_at(epsilon: SinCos, inclination_cosine: f64, inclination_sine: f64) -> Option<Plane>
     ensures { result ≡ plane_of epsilon inclination_cosine inclination_sine }
 {
     let right_ascension_sine = lunar_right_ascension_sine(epsilon.sin, inclination_sine);
-    match complement(right_ascension_sine) {
-        Root::Of(right_ascension_cosine) => Tilt::Of(Plane {
-            inclination_sine,
-            inclination_cosine,
-            right_ascension_sine,
-            right_ascension_cosine,
-        }),
-        Root::Outside => Tilt::NoRoot,
-    }
+    let right_ascension_cosine = complement(right_ascension_sine)?;
+    Some(Plane {
+        inclination_sine,
+        inclination_cosine,
+        right_ascension_sine,
+        right_ascension_cosine,
+    })
 }
 
 // How the Moon's orbit lies, from the sine and cosine of Ωₗₑ.
-fn tilt_of(epsilon: Wave) -> Tilt
+#[tactic(auto, unfolding(crate::specs::Geometry::tilt_of))]
+fn tilt_of(epsilon: SinCos) -> Option<Plane>
     ensures { result ≡ tilt_of epsilon }
 {
     let inclination_cosine = lunar_inclination_cosine(epsilon.cos);
-    match complement(inclination_cosine) {
-        Root::Of(inclination_sine) => plane_at(epsilon, inclination_cosine, inclination_sine),
-        Root::Outside => Tilt::NoRoot,
-    }
+    let inclination_sine = complement(inclination_cosine)?;
+    plane_at(epsilon, inclination_cosine, inclination_sine)
 }
 
 // ωₗ = 5.8351514 + 0.001944368 d₁₉₀₀
 //                     0.39785416 sin Ωₗₑ / sin Iₗ
 //      + tan⁻¹ ------------------------------------------ - Ωₗₑ
 //              cos Ωₗ cos Ωₗₑ + 0.91744867 sin Ωₗ sin Ωₗₑ
-fn lunar_argument_of_perigee(d1900: f64, epsilon: f64, wave: Wave, plane: Plane) -> f64
+fn lunar_argument_of_perigee(d1900: f64, epsilon: f64, wave: SinCos, plane: Plane) -> f64
     ensures { result ≡ perigee d1900 epsilon wave plane }
 {
     5.8351514
@@ -150,7 +133,7 @@ fn lunar_argument_of_perigee(d1900: f64, epsilon: f64, wave: Wave, plane: Plane)
 }
 
 // The Sun: Ωₛ is 0, and its inclination and argument of perigee are numbers of the Rust.
-fn solar(d1900: f64, node: Wave) -> ThirdBody
+fn solar(d1900: f64, node: SinCos) -> ThirdBody
     ensures { result ≡ sun d1900 node }
 {
     ThirdBody {
@@ -165,7 +148,8 @@ fn solar(d1900: f64, node: Wave) -> ThirdBody
 }
 
 // The Moon: sin(Ω₀ - Ωₗ) = sin Ω₀ cos Ωₗ - cos Ω₀ sin Ωₗ, cos(Ω₀ - Ωₗ) = cos Ωₗ cos Ω₀ + sin Ωₗ sin Ω₀
-fn lunar(d1900: f64, node: Wave, plane: Plane, perigee: Wave) -> ThirdBody
+#[tactic(auto, unfolding(crate::specs::Geometry::moon))]
+fn lunar(d1900: f64, node: SinCos, plane: Plane, perigee: SinCos) -> ThirdBody
     ensures { result ≡ moon d1900 node plane perigee }
 {
     ThirdBody {
@@ -196,47 +180,24 @@ impl ThirdBody {
     }
 }
 
-// Both bodies, where the sine of the Moon's argument of perigee is answered.
-fn bodies_at(d1900: f64, node: Wave, plane: Plane, perigee: Wave) -> Geometry
-    ensures { result ≡ bodies_of d1900 node plane perigee }
-{
-    if !perigee.ok {
-        return Geometry::AngleOutside;
-    }
-    let solar = solar(d1900, node);
-    let lunar = lunar(d1900, node, plane, perigee);
-    if solar.is_finite() & lunar.is_finite() {
-        return Geometry::Of(Bodies { solar, lunar });
-    }
-    Geometry::NotFinite
-}
-
-// Both bodies, where the sines of Ω₀ and Ωₗₑ are answered.
-fn placed(d1900: f64, epsilon: f64, node: Wave, wave: Wave) -> Geometry
-    ensures { result ≡ placed_of d1900 epsilon node wave }
-{
-    match tilt_of(wave) {
-        Tilt::Of(plane) => {
-            let perigee = sines(lunar_argument_of_perigee(d1900, epsilon, wave, plane));
-            bodies_at(d1900, node, plane, perigee)
-        }
-        Tilt::NoRoot => Geometry::NotFinite,
-    }
-}
-
 // The geometry of an orbit whose node Ω₀ is in rad; the epoch in years since UTC 1 January 2000 12h00.
-pub fn geometry_of(right_ascension: f64, epoch: f64) -> Geometry
+pub fn geometry_of(right_ascension: f64, epoch: f64) -> Result<Bodies, BuildError>
     ensures { result ≡ geometry_of right_ascension epoch }
 {
     if !(is_finite(right_ascension) & is_finite(epoch)) {
-        return Geometry::NumberNotFinite;
+        return Err(BuildError::NumberNotFinite);
     }
     let d1900 = d1900(epoch);
     let epsilon = lunar_right_ascension_epsilon(d1900);
-    let node = sines(right_ascension);
-    let wave = sines(epsilon);
-    if !(node.ok & wave.ok) {
-        return Geometry::AngleOutside;
+    let node = sin_cos(right_ascension).ok_or(BuildError::AngleOutside)?;
+    let wave = sin_cos(epsilon).ok_or(BuildError::AngleOutside)?;
+    let plane = tilt_of(wave).ok_or(BuildError::NotFinite)?;
+    let argument_of_perigee = lunar_argument_of_perigee(d1900, epsilon, wave, plane);
+    let perigee = sin_cos(argument_of_perigee).ok_or(BuildError::AngleOutside)?;
+    let solar = solar(d1900, node);
+    let lunar = lunar(d1900, node, plane, perigee);
+    if !(solar.is_finite() & lunar.is_finite()) {
+        return Err(BuildError::NotFinite);
     }
-    placed(d1900, epsilon, node, wave)
+    Ok(Bodies { solar, lunar })
 }

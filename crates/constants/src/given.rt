@@ -6,7 +6,7 @@ ghost use Rattle.constants.specs.Given.{finite_given, finite_dots, sum as sum_of
 use floats::finite::is_finite;
 
 // The epoch in years since UTC 1 January 2000 12h00, and what the propagator has worked out.
-#[derive(Clone, Copy)]
+#[derive(Clone, Copy, Debug, PartialEq)]
 pub struct Given {
     pub epoch: f64,
     pub p1: f64,
@@ -21,7 +21,7 @@ pub struct Given {
 }
 
 // The rates that a third body gives the elements, per minute: `Dots` of third_body.rs.
-#[derive(Clone, Copy)]
+#[derive(Clone, Copy, Debug, PartialEq)]
 pub struct Dots {
     pub inclination: f64,
     pub right_ascension: f64,

@@ -2,6 +2,7 @@
 #![tactic(auto)]
 
 pub mod build;
+pub mod error;
 pub mod geometry;
 pub mod given;
 pub mod longitude;

@@ -9,7 +9,7 @@ use Rattle.contents.specs.Records.{file_of, put, header, contents, entry_bytes, 
 use Rattle.contents.specs.Find.{sought, found_in}
 use Rattle.contents.specs.Save.{saved_file, saved}
 use Rattle.contents.specs.Examples.{empty, seven, Empty}
-use Rattle.contents.specs.declared.find.Found.TheVariants.{Body}
+use Rattle.std.specs.Prelude.{Ok}
 
 the-file : (b : List ℕ) → length b ≡ 176 → saved_file empty 7 b ≡ seven ++ b
 unfolding file_of put header contents entry_bytes bodies le le_bytes entries
@@ -22,7 +22,7 @@ the-count : (b : List ℕ) → count (seven ++ b) ≡ 1
 unfolding le
 the-count b = refl
 
-the-body : (b : List ℕ) → length b ≡ 176 → found_in (seven ++ b) 7 ≡ Body 20 176
+the-body : (b : List ℕ) → length b ≡ 176 → found_in (seven ++ b) 7 ≡ Ok (record { offset = 20; size = 176 })
 unfolding contents_right header_right follows chained entries sought found_in le
 the-body b h = simp h
 

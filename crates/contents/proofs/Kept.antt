@@ -13,7 +13,7 @@ use Rattle.contents.specs.Records.{Rec, records_of, body_among, body_in, put, fi
 use Rattle.contents.specs.Find.{found_in, bytes_at}
 use Rattle.contents.specs.Save.{saved_records, saved_file, saved}
 use Rattle.contents.specs.Kept.{SaveKeeps}
-use Rattle.contents.specs.declared.save.Saved.TheVariants.{Written}
+use Rattle.std.specs.Prelude.{Ok}
 use Rattle.contents.proofs.format.Laws.{right}
 use Rattle.contents.proofs.save.Answer.{is-wrong, too_many, too_long, no_room, is-written}
 use Rattle.contents.proofs.Found.{finds-bodies}
@@ -27,7 +27,7 @@ pub record Accepted (s : List ℕ) (x : ℕ) (b : List ℕ) (room n : ℕ) : Typ
   pub size : length (saved_file s x b) ≡ n
   pub fits : n ≤ room
 
-pub accepted : (s : List ℕ) (x : ℕ) (b : List ℕ) (room n : ℕ) → saved s x b room ≡ Written n → Accepted s x b room n
+pub accepted : (s : List ℕ) (x : ℕ) (b : List ℕ) (room n : ℕ) → saved s x b room ≡ Ok n → Accepted s x b room n
 accepted s x b room n h =
     go (contents_right s) (leb (length (saved_records s x b)) most) (ltb (length (saved_file s x b)) (2 ^ 32)) (leb (length (saved_file s x b)) room) refl refl refl refl
   where

@@ -1,15 +1,13 @@
 -- The laws of bytes that are laid over a list: one after another is all at once. Assumes nothing.
 use mathlib.Core.Path.{◌≡◌, sym, ap, ◌∙◌}
-use mathlib.Core.List.{List, [], ◌∷◌, ◌++◌, append_assoc, append-nil}
-use Prim.Native.Nat.{ℕ, ◌+◌, ◌/◌, ◌^◌, ◌≤◌, ◌<◌}
+use mathlib.Core.List.{List, [], ◌++◌, append_assoc, append-nil}
+use Prim.Native.Nat.{ℕ, ◌+◌, ◌≤◌, ◌<◌}
 use native.Mathlib.Nat.{add_assoc, zero-add, add-zero}
-use native.Mathlib.Omega.{arith}
-use lib.ListN.{take-append-drop, length, take, drop, set, length-append}
-use lib.Seq.{take_at, drop_at, length-take-le, drop-drop, sets-eq, paste, take-length}
+use borrow.Rule.Slice.PartMut.{put_mid}
+use lib.ListN.{take-append-drop, length, take, drop, length-append}
+use lib.Seq.{take_at, drop_at, length-take-le, drop-drop}
 use borrow.Author.Tests.{le-leb, lt-leb}
 use Rattle.contents.specs.Laid.{laid, laid_inside}
-use Rattle.contents.specs.LittleEndian.{le_bytes}
-use Rattle.contents.proofs.Le.{le_bytes-split, length-le_bytes}
 
 -- what stands before the end of what was laid
 pub take-laid : (at : ℕ) (bs l : List ℕ) → at ≤ length l → take (at + length bs) (laid at bs l) ≡ take at l ++ bs
@@ -37,24 +35,10 @@ pub laid-front : (bs l : List ℕ) → laid 0 bs l ≡ bs ++ drop (length bs) l
 unfolding laid
 laid-front bs l = simp (zero-add)
 
--- one byte
-pub laid_one : (at b : ℕ) (l : List ℕ) → at < length l → set l at b ≡ laid at (b ∷ []) l
+-- the library's copy
+pub put_mid-laid : (at k : ℕ) (l : List ℕ) {bs xs : List ℕ} → k ≡ length bs → xs ≡ bs → put_mid at k l xs ≡ laid at bs l
 unfolding laid
-laid_one at b l h = sets-eq (b ∷ []) l at (omega arith)
-
--- a number's first m bytes, then the n after them
-pub laid-number : (m n x at : ℕ) (l : List ℕ) {l₁ l₂ : List ℕ} → at ≤ length l → l₁ ≡ laid at (le_bytes m x) l
-    → l₂ ≡ laid (at + m) (le_bytes n (x / 256 ^ m)) l₁ → l₂ ≡ laid at (le_bytes (m + n) x) l
-laid-number m n x at l {l₁} {l₂} h p q =
-    q ∙ ap (laid (at + m) (le_bytes n (x / 256 ^ m))) p
-    ∙ ap (λ (k : ℕ). laid (at + k) (le_bytes n (x / 256 ^ m)) (laid at (le_bytes m x) l)) (sym (length-le_bytes m x))
-    ∙ laid-laid at (le_bytes m x) (le_bytes n (x / 256 ^ m)) l h
-    ∙ ap (λ (bs : List ℕ). laid at bs l) (sym (le_bytes-split m n x))
-
--- a copy that is done
-pub paste-laid : (at : ℕ) (s l : List ℕ) → paste l at s (length s) ≡ laid at s l
-unfolding laid
-paste-laid at s l = simp take-length
+put_mid-laid at k l h e = simp (h, e, append_assoc, drop-drop)
 
 -- one after another: what was laid goes on
 pub laid_then : (at q : ℕ) (xs ys l : List ℕ) {l₁ l₂ : List ℕ} → at ≤ length l → l₁ ≡ laid at xs l → q ≡ at + length xs → l₂ ≡ laid q ys l₁

@@ -1,12 +1,14 @@
--- The laws of little-endian numbers: a number in two parts, and its bytes. Assumes nothing.
+-- The laws of little-endian numbers: the library's are these, and a number is read back from its bytes. Assumes nothing.
 use mathlib.Core.Path.{◌≡◌, refl, ap, ◌∙◌}
 use mathlib.Core.List.{List, [], ◌∷◌, ◌++◌}
-use Prim.Native.Nat.{ℕ, zero, suc, ◌+◌, ◌*◌, ◌/◌, ◌^◌, ◌<◌, ◌≤◌}
-use native.Mathlib.Nat.{zero-add, suc-add, mul-add, mul_assoc, add_assoc, pow-succ', pow-zero, one-mul, mul-zero, div-one, div-div-eq-div-mul}
+use Prim.Native.Nat.{ℕ, zero, suc, ◌+◌, ◌*◌, ◌-◌, ◌/◌, ◌%◌, ◌^◌, ◌<◌, ◌≤◌}
+use native.Mathlib.Nat.{add_assoc, suc-add, pow-succ', pow-suc, pow-zero, div-one, div-div-eq-div-mul}
 use native.Mathlib.Omega.{arith}
-use lib.ListN.{length, drop, get_or}
-use lib.Seq.{drop-drop, drop-cons}
+use lib.ListN.{length, take, drop, get_or}
 use borrow.Author.Tests.{le-leb, lt-leb}
+use Rattle.std.specs.Array.{IsFirstChunk}
+use Rattle.std.proofs.lemmas.List.{take_rest}
+use Rattle.std.specs.Int.{w16, w32, w64, bytes_low_first, to_le_bytes, from_le_bytes}
 use Rattle.contents.specs.LittleEndian.{le, le_bytes, word_at}
 
 -- past the end all bytes count 0
@@ -15,27 +17,58 @@ unfolding le
 le-nil zero = refl
 le-nil (suc n) = refl
 
--- the first m bytes, and the n after them
-pub le_split : (m n : ℕ) (s : List ℕ) → le (m + n) s ≡ le m s + 256 ^ m * le n (drop m s)
+-- ---- the library's numbers and bytes are these
+
+-- one byte, and the n after it
+le-next : (n i : ℕ) (s : List ℕ) → le (suc n) (drop i s) ≡ get_or s i 0 + 256 * le n (drop (i + 1) s)
 unfolding le
-le_split zero n s = simp (zero-add, pow-zero, one-mul)
-le_split (suc m) n [] = simp (suc-add, le-nil, mul-zero)
-le_split (suc m) n (b ∷ s) = simp (suc-add, le_split m n s, mul-add, pow-succ', mul_assoc, add_assoc)
+le-next n zero [] = simp le-nil
+le-next n (suc i) [] = simp (suc-add, le-nil)
+le-next n zero (b ∷ s) = refl
+le-next n (suc i) (b ∷ s) = le-next n i s ∙ simp suc-add
 
--- the same at an offset
-pub le-at : (m n : ℕ) (s : List ℕ) (at : ℕ) → le (m + n) (drop at s) ≡ le m (drop at s) + 256 ^ m * le n (drop (at + m) s)
-le-at m n s at = le_split m n (drop at s) ∙ simp (drop-drop)
-
--- one byte is the byte
-pub le-one : (s : List ℕ) (at : ℕ) → at < length s → le 1 (drop at s) ≡ get_or s at 0
+-- bytes past the n first change nothing
+le-take : (n : ℕ) (s : List ℕ) → le n (take n s) ≡ le n s
 unfolding le
-le-one s at h = rw (drop-cons s at 0 h) (omega arith)
+le-take zero s = refl
+le-take (suc n) [] = refl
+le-take (suc n) (b ∷ s) = ap (λ (k : ℕ). b + 256 * k) (le-take n s)
 
--- the first m bytes of a number, and the n after them
-pub le_bytes-split : (m n x : ℕ) → le_bytes (m + n) x ≡ le_bytes m x ++ le_bytes n (x / 256 ^ m)
+le_place : (at n k : ℕ) (s : List ℕ) → le (suc n) (drop (at + k) s) ≡ get_or s (at + k) 0 + 256 * le n (drop (at + (k + 1)) s)
+le_place at n k s = le-next n (at + k) s ∙ simp add_assoc
+
+module _ (at : ℕ) (s : List ℕ) {x : ℕ} where
+  pub from_le_2 : x ≡ from_le_bytes w16 (get_or s at 0 ∷ get_or s (at + 1) 0 ∷ []) → x ≡ le 2 (drop at s)
+  unfolding le
+  from_le_2 h = omega (arith, le-next 1 at s, le_place at 0 1 s)
+
+  pub from_le_4 : x ≡ from_le_bytes w32 (get_or s at 0 ∷ get_or s (at + 1) 0 ∷ get_or s (at + 2) 0 ∷ get_or s (at + 3) 0 ∷ []) → x ≡ le 4 (drop at s)
+  unfolding le
+  from_le_4 h = omega (arith, le-next 3 at s, le_place at 2 1 s, le_place at 1 2 s, le_place at 0 3 s)
+
+  -- eight bytes, which the library took as an array
+  pub from_le_8 : {bs : List ℕ} → IsFirstChunk (take (length s - at) (drop at s)) bs 8 → x ≡ from_le_bytes w64 bs → x ≡ le 8 (drop at s)
+  unfolding le
+  from_le_8 {bs} k h =
+      let f : x ≡ le 8 bs =
+      omega (arith, le-next 7 0 bs, le-next 6 1 bs, le-next 5 2 bs, le-next 4 3 bs, le-next 3 4 bs, le-next 2 5 bs, le-next 1 6 bs, le-next 0 7 bs) in
+      f ∙ ap (le 8) (k.same ∙ ap (take 8) (take_rest s at)) ∙ le-take 8 (drop at s)
+
+low_first : (i k x : ℕ) → bytes_low_first i k x ≡ le_bytes k (x / 256 ^ i)
 unfolding le_bytes
-le_bytes-split zero n x = simp (zero-add, pow-zero, div-one)
-le_bytes-split (suc m) n x = simp (suc-add, le_bytes-split m n (x / 256), pow-succ', div-div-eq-div-mul)
+low_first i zero x = refl
+low_first zero (suc k) x = simp (low_first 1 k x, pow-zero, div-one)
+low_first (suc i) (suc k) x = simp (low_first (suc (suc i)) k x, div-div-eq-div-mul, pow-suc)
+
+take-le_bytes : (n m x : ℕ) → n ≤ m → take n (le_bytes m x) ≡ le_bytes n x
+unfolding le_bytes
+take-le_bytes zero m x h = refl
+take-le_bytes (suc n) zero x h = absurd (omega arith)
+take-le_bytes (suc n) (suc m) x h = ap (λ (l : List ℕ). x % 256 ∷ l) (take-le_bytes n m (x / 256) (omega arith))
+
+-- the n lowest bytes of a number of eight
+pub to_le : (n x : ℕ) → n ≤ 8 → take n (to_le_bytes w64 x) ≡ le_bytes n x
+to_le n x h = ap (take n) (low_first 0 8 x ∙ simp (pow-zero, div-one)) ∙ take-le_bytes n 8 x h
 
 pub length-le_bytes : (n x : ℕ) → length (le_bytes n x) ≡ n
 unfolding le_bytes

@@ -2,7 +2,7 @@
 use mathlib.Core.Path.{◌≡◌, refl, sym, ap, ◌∙◌}
 use mathlib.Core.Bool.{Bool, true, false, cond}
 use mathlib.Core.List.{List, [], ◌∷◌, ◌++◌, append_assoc, map}
-use mathlib.Core.Option.{some}
+use Rattle.std.specs.Prelude.{Some}
 use Prim.Native.Nat.{ℕ, zero, suc, ◌+◌, ◌*◌, ◌^◌, ◌≤◌, ◌<◌}
 use native.Mathlib.Omega.{arith}
 use borrow.Author.Tests.{ltb-true, ltb-false, eqb-true, eqb-false, le-ltb, le-leb, eq-eqb, ne_eqb}
@@ -19,13 +19,13 @@ use Rattle.contents.proofs.save.Laws.{length-entry_bytes}
 
 -- ---- records with one put among them
 
-pub put-new : (r : Rec) (rs : List Rec) → body_among r.satellite (put r rs) ≡ some r.body
+pub put-new : (r : Rec) (rs : List Rec) → body_among r.satellite (put r rs) ≡ Some r.body
 unfolding body_among put
 put-new r [] = simp (eq-eqb r.satellite r.satellite refl)
 put-new r (q ∷ qs) = go (ltb r.satellite q.satellite) (eqb r.satellite q.satellite) refl refl (put-new r qs)
   where
-    go : (t u : Bool) → ltb r.satellite q.satellite ≡ t → eqb r.satellite q.satellite ≡ u → body_among r.satellite (put r qs) ≡ some r.body
-        → body_among r.satellite (put r (q ∷ qs)) ≡ some r.body
+    go : (t u : Bool) → ltb r.satellite q.satellite ≡ t → eqb r.satellite q.satellite ≡ u → body_among r.satellite (put r qs) ≡ Some r.body
+        → body_among r.satellite (put r (q ∷ qs)) ≡ Some r.body
     go true u h k i = simp (h, eq-eqb r.satellite r.satellite refl)
     go false true h k i = simp (h, k, eq-eqb r.satellite r.satellite refl)
     go false false h k i = simp (h, k, ne_eqb q.satellite r.satellite (λ e. eqb-false _ _ k (sym e)), i)

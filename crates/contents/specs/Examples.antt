@@ -1,10 +1,10 @@
 -- Example (m), the empty file, and the file of 196 bytes that a save of satellite 7 makes of it. Definitions and the statement. Assumes nothing.
-use Rattle.std.specs.Prelude.{ℕ, ◌≡◌, true, List, [], ◌∷◌, ◌++◌, length}
+use Rattle.std.specs.Prelude.{ℕ, ◌≡◌, true, List, [], ◌∷◌, ◌++◌, length, Ok, Err}
 use Rattle.contents.specs.Format.{count, contents_right}
 use Rattle.contents.specs.Find.{found_in}
 use Rattle.contents.specs.Save.{saved_file, saved}
-use Rattle.contents.specs.declared.find.Found.TheVariants.{SatelliteMissing, Body}
-use Rattle.contents.specs.declared.save.Saved.TheVariants.{OutputShort, Written}
+use Rattle.contents.specs.declared.find.FindError.TheVariants.{SatelliteMissing}
+use Rattle.contents.specs.declared.save.SaveError.TheVariants.{OutputShort}
 
 -- the empty file, whole
 abbrev pub empty : List ℕ
@@ -21,10 +21,10 @@ seven =
 pub record Empty : Type 0 where
   pub right : contents_right empty ≡ true
   pub none : count empty ≡ 0
-  pub missing : (x : ℕ) → found_in empty x ≡ SatelliteMissing
+  pub missing : (x : ℕ) → found_in empty x ≡ Err SatelliteMissing
   pub file : (b : List ℕ) → length b ≡ 176 → saved_file empty 7 b ≡ seven ++ b
   pub size : (b : List ℕ) → length b ≡ 176 → length (saved_file empty 7 b) ≡ 196
-  pub written : (b : List ℕ) → length b ≡ 176 → saved empty 7 b 196 ≡ Written 196
-  pub short : (b : List ℕ) → length b ≡ 176 → saved empty 7 b 195 ≡ OutputShort
+  pub written : (b : List ℕ) → length b ≡ 176 → saved empty 7 b 196 ≡ Ok 196
+  pub short : (b : List ℕ) → length b ≡ 176 → saved empty 7 b 195 ≡ Err OutputShort
   pub one : (b : List ℕ) → length b ≡ 176 → count (saved_file empty 7 b) ≡ 1
-  pub found : (b : List ℕ) → length b ≡ 176 → found_in (saved_file empty 7 b) 7 ≡ Body 20 176
+  pub found : (b : List ℕ) → length b ≡ 176 → found_in (saved_file empty 7 b) 7 ≡ Ok (record { offset = 20; size = 176 })

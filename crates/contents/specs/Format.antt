@@ -8,9 +8,10 @@
 --                the bodies, one after another, to the end of the file
 --
 -- All numbers have their lowest byte first.
-use Rattle.std.specs.Prelude.{ℕ, zero, suc, ◌+◌, ◌*◌, ◌<◌, Bool, ◌&&◌, List, [], ◌∷◌, length, drop, get_or, eqb, leb}
+use Rattle.std.specs.Prelude.{◌≡◌, true, ℕ, zero, suc, ◌+◌, ◌*◌, ◌<◌, Bool, ◌&&◌, List, [], ◌∷◌, length, drop, get_or, eqb, leb}
 use Rattle.contents.specs.LittleEndian.{le}
 use Rattle.contents.specs.declared.format.Entry.{Entry}
+use Rattle.contents.specs.declared.format.FileWrong.{FileWrong}
 
 -- the four bytes that a file begins with
 abbrev pub magic : List ℕ
@@ -70,6 +71,19 @@ contents_right s =
     header_right s
     && (leb (contents_end (count s)) (length s)
     && chained (length s) 0 (contents_end (count s)) (entries_of s))
+
+-- f is the file s, which is right, and n the count of its entries
+pub record IsContents (s f : List ℕ) (n : ℕ) : Type 0 where
+  pub file : f ≡ s
+  pub count : n ≡ count s
+  pub right : contents_right s ≡ true
+
+-- refusal 14, and document 01's number of it
+abbrev pub file_wrong : FileWrong
+file_wrong = record {}
+
+abbrev pub wrong_number : ℕ
+wrong_number = 14
 
 -- each element of a list is a byte
 abbrev pub Bytes : List ℕ → Type 0

@@ -1,6 +1,5 @@
 -- A store file as a list of records, read from the file and written to it. Definitions only. Assumes nothing.
-use Rattle.std.specs.Prelude.{ℕ, ◌+◌, cond, List, [], ◌∷◌, ◌++◌, map, length, take, drop, eqb, ltb}
-use Rattle.std.proofs.Math.Option.{Option, none, some}
+use Rattle.std.specs.Prelude.{ℕ, ◌+◌, cond, List, [], ◌∷◌, ◌++◌, map, length, take, drop, eqb, ltb, Option, Some, None}
 use Rattle.contents.specs.LittleEndian.{le_bytes}
 use Rattle.contents.specs.Format.{magic, version, contents_end, entries_of}
 use Rattle.contents.specs.declared.format.Entry.{Entry}
@@ -22,8 +21,8 @@ records_of s = map (record_of s) (entries_of s)
 
 -- the body of a satellite, by the first record that has it
 unfoldable pub body_among : ℕ → List Rec → Option (List ℕ)
-body_among x [] = none
-body_among x (r ∷ rs) = cond (eqb r.satellite x) (some r.body) (body_among x rs)
+body_among x [] = None
+body_among x (r ∷ rs) = cond (eqb r.satellite x) (Some r.body) (body_among x rs)
 
 -- the body of a satellite in a file
 abbrev pub body_in : List ℕ → ℕ → Option (List ℕ)

@@ -1,89 +1,86 @@
 // What a store file has: the search for a satellite's body, and the list of its satellites.
-ghost use Rattle.std.specs.Prelude.{◌≡◌, ◌≤◌, length, drop};
-ghost use Rattle.contents.specs.Format.{most, entries, contents_end};
-ghost use Rattle.contents.specs.Find.{sought, found_in, counted_in, listed_in};
+ghost use Rattle.std.specs.Prelude.{◌≡◌, drop};
+ghost use Rattle.contents.specs.Format.{entries};
+ghost use Rattle.contents.specs.Find.{number as number_of_error, sought, found_in, counted_in, listed_in};
+ghost use Rattle.contents.specs.declared.find.FindError.TheVariants.{FileWrong as FileIsWrong};
 
-use crate::format::{entry_at, is_right};
-use crate::little_endian::{u16_at, u32_at};
+use crate::format::{Contents, FileWrong};
 
-// A satellite in a file, and where its body is.
-#[derive(Drop)]
-pub enum Found {
-    // refusal 14
-    FileWrong,
-    // refusal 15
-    SatelliteMissing,
-    // its offset and its length
-    Body(usize, usize),
+// Why nothing is found in a file, by the refusal's number.
+#[derive(Clone, Copy, Debug, PartialEq, Eq)]
+pub enum FindError {
+    FileWrong = 14,
+    SatelliteMissing = 15, // of a satellite, or of a place past the last record
 }
 
-// How many records a file has.
-#[derive(Drop)]
-pub enum Counted {
-    // refusal 14
-    FileWrong,
-    Records(usize),
-}
-
-// A satellite in a file, by its place among them.
-#[derive(Drop)]
-pub enum Listed {
-    // refusal 14
-    FileWrong,
-    // refusal 15: the file has no such record
-    PastEnd,
-    Satellite(u32),
-}
-
-// The body of a satellite, by the first of n entries that has it.
-fn find_entry(file: &[u8], n: usize, satellite: u32) -> Found
-    requires { (n ≤ most) × (contents_end n ≤ length file.now) }
-    ensures { result ≡ sought satellite (entries n (drop 8 file.now)) }
-{
-    let mut left = n;
-    let mut at = 8;
-    while 0 < left {
-        let e = entry_at(file, at);
-        if e.satellite == satellite {
-            return Found::Body(e.offset as usize, e.size as usize);
-        }
-        at = at + 12;
-        left = left - 1;
+impl FindError {
+    // The refusal's number.
+    pub fn number(self) -> u32
+        ensures { result ≡ number_of_error self }
+    {
+        self as u32
     }
-    Found::SatelliteMissing
+}
+
+impl From<FileWrong> for FindError {
+    ghost from_gives = { λ _ e. e ≡ FileIsWrong };
+
+    fn from(_: FileWrong) -> FindError {
+        FindError::FileWrong
+    }
+}
+
+// Where a body is in a file.
+#[derive(Clone, Copy, Debug, PartialEq, Eq)]
+pub struct Span {
+    pub offset: usize,
+    pub size: usize,
+}
+
+impl Contents<'_> {
+    // Where the body of a satellite is, by the first entry that has it.
+    fn find(self, satellite: u32) -> Option<Span>
+        ensures { result ≡ sought satellite (entries self.entry.count (drop 8 self.entry.file.now)) }
+    {
+        for i in 0..self.count {
+            let e = self.entry(i);
+            if e.satellite == satellite {
+                return Some(Span {
+                    offset: e.offset as usize,
+                    size: e.size as usize,
+                });
+            }
+        }
+        None
+    }
 }
 
 // Where the body of a satellite is in a file.
-pub fn find(file: &[u8], satellite: u32) -> Found
+#[tactic(auto, unfolding(crate::specs::Find::found_in))]
+pub fn find(file: &[u8], satellite: u32) -> Result<Span, FindError>
     ensures { result ≡ found_in file.now satellite }
 {
-    if !is_right(file) {
-        return Found::FileWrong;
-    }
-    let n = u16_at(file, 6) as usize;
-    find_entry(file, n, satellite)
+    let contents = Contents::read(file)?;
+    contents.find(satellite).ok_or(FindError::SatelliteMissing)
 }
 
 // How many records a file has.
-pub fn record_count(file: &[u8]) -> Counted
+#[tactic(auto, unfolding(crate::specs::Find::counted_in))]
+pub fn record_count(file: &[u8]) -> Result<usize, FileWrong>
     ensures { result ≡ counted_in file.now }
 {
-    if !is_right(file) {
-        return Counted::FileWrong;
-    }
-    Counted::Records(u16_at(file, 6) as usize)
+    let contents = Contents::read(file)?;
+    Ok(contents.count)
 }
 
 // The satellite of record i of a file, the first being 0.
-pub fn satellite_at(file: &[u8], i: usize) -> Listed
+#[tactic(auto, unfolding(crate::specs::Find::listed_in))]
+pub fn satellite_at(file: &[u8], i: usize) -> Result<u32, FindError>
     ensures { result ≡ listed_in file.now i }
 {
-    if !is_right(file) {
-        return Listed::FileWrong;
+    let contents = Contents::read(file)?;
+    if contents.count <= i {
+        return Err(FindError::SatelliteMissing);
     }
-    let n = u16_at(file, 6) as usize;
-    if n <= i {
-        return Listed::PastEnd;
-    }
-    Listed::Satellite(u32_at(file, 8 + 12 * i))
+    Ok(contents.entry(i).satellite)
 }

@@ -1,6 +1,6 @@
 // The header and the contents of a store file, and the check of them: refusal 14.
-ghost use Rattle.std.specs.Prelude.{◌≡◌, ◌+◌, ◌*◌, ◌≤◌, length, drop};
-ghost use Rattle.contents.specs.Format.{most, entry_of, entries, header_right, follows, chained, contents_end, contents_right};
+ghost use Rattle.std.specs.Prelude.{◌≡◌, ◌≤◌, ◌<◌, false, length, drop, MatchResult};
+ghost use Rattle.contents.specs.Format.{most, entry_of, entries, header_right, follows, chained, contents_end, contents_right, wrong_number, IsContents};
 
 use crate::little_endian::{u16_at, u32_at};
 
@@ -13,27 +13,29 @@ pub(crate) const VERSION: u16 = 1;
 // The most records that a file has.
 pub(crate) const MOST: usize = 128;
 
+// A file whose header or contents are wrong: refusal 14.
+#[derive(Clone, Copy, Debug, PartialEq, Eq)]
+pub struct FileWrong;
+
+impl FileWrong {
+    // The refusal's number.
+    pub fn number(self) -> u32
+        ensures { result ≡ wrong_number }
+    {
+        14
+    }
+}
+
 // An entry of the contents: a satellite, and its body's offset and length.
-#[derive(Clone, Copy)]
+#[derive(Clone, Copy, Debug, PartialEq, Eq)]
 pub struct Entry {
     pub satellite: u32,
     pub offset: u32,
     pub size: u32,
 }
 
-// The entry at `at`.
-pub(crate) fn entry_at(file: &[u8], at: usize) -> Entry
-    requires { at + 12 ≤ length file.now }
-    ensures { result ≡ entry_of (drop at file.now) }
-{
-    Entry {
-        satellite: u32_at(file, at),
-        offset: u32_at(file, at + 4),
-        size: u32_at(file, at + 8),
-    }
-}
-
 // Whether the first eight bytes of a file are a header that is right.
+#[tactic(auto, unfolding(crate::specs::Format::header_right))]
 pub fn is_header(file: &[u8]) -> bool
     ensures { result ≡ header_right file.now }
 {
@@ -48,6 +50,7 @@ pub fn is_header(file: &[u8]) -> bool
 
 // Whether an entry may follow the one before it: its satellite is at least `least`, which is the one before and 1, or 0 at first, and its body
 // starts at `end`, where the one before ends, or the contents at first.
+#[tactic(auto, unfolding(crate::specs::Format::follows))]
 pub fn is_next(least: u64, end: u64, entry: Entry) -> bool
     ensures { result ≡ follows least end entry }
 {
@@ -56,38 +59,69 @@ pub fn is_next(least: u64, end: u64, entry: Entry) -> bool
     (least <= satellite) & (offset == end)
 }
 
-// Whether each of n entries may follow the one before it, and the last body ends with the file.
-fn is_chained(file: &[u8], n: usize) -> bool
-    requires { (n ≤ most) × (contents_end n ≤ length file.now) }
-    ensures { result ≡ chained (length file.now) 0 (contents_end n) (entries n (drop 8 file.now)) }
-{
-    let mut left = n;
-    let mut at = 8;
-    let mut least: u64 = 0;
-    let mut end = 8 + 12 * (n as u64);
-    while 0 < left {
-        let e = entry_at(file, at);
-        if !is_next(least, end, e) {
-            return false;
+// A file, and how many entries its header counts: no more than a file may have, and the file has room for them.
+#[derive(Clone, Copy)]
+pub(crate) struct Contents<'a> {
+    pub file: &'a [u8],
+    pub count: usize,
+    ghost few: { count ≤ most },
+    ghost inside: { contents_end count ≤ length file.now },
+}
+
+impl<'a> Contents<'a> {
+    // The contents of a file that is right.
+    #[tactic(auto, unfolding(crate::specs::Format::contents_right))]
+    pub fn read(file: &'a [u8]) -> Result<Contents<'a>, FileWrong>
+        ensures { MatchResult result (λ c. IsContents file.now c.file.now c.count) (λ _. contents_right file.now ≡ false) }
+    {
+        if !is_header(file) {
+            return Err(FileWrong);
         }
-        least = (e.satellite as u64) + 1;
-        end = end + (e.size as u64);
-        at = at + 12;
-        left = left - 1;
+        let count = u16_at(file, 6) as usize;
+        if file.len() < 8 + 12 * count {
+            return Err(FileWrong);
+        }
+        let contents = Contents { file, count };
+        if !contents.is_chained() {
+            return Err(FileWrong);
+        }
+        Ok(contents)
     }
-    end == file.len() as u64
+
+    // Entry i, the first being 0.
+    pub(crate) fn entry(self, i: usize) -> Entry
+        requires { i < self.count }
+        ensures { result ≡ entry_of (drop (contents_end i) self.entry.file.now) }
+    {
+        let at = 8 + 12 * i;
+        Entry {
+            satellite: u32_at(self.file, at),
+            offset: u32_at(self.file, at + 4),
+            size: u32_at(self.file, at + 8),
+        }
+    }
+
+    // Whether each entry may follow the one before it, and the last body ends with the file.
+    fn is_chained(self) -> bool
+        ensures { result ≡ chained (length self.entry.file.now) 0 (contents_end self.entry.count) (entries self.entry.count (drop 8 self.entry.file.now)) }
+    {
+        let mut least: u64 = 0;
+        let mut end = 8 + 12 * (self.count as u64);
+        for i in 0..self.count {
+            let e = self.entry(i);
+            if !is_next(least, end, e) {
+                return false;
+            }
+            least = (e.satellite as u64) + 1;
+            end += e.size as u64;
+        }
+        end == self.file.len() as u64
+    }
 }
 
 // Whether header and contents are right: not refusal 14.
 pub fn is_right(file: &[u8]) -> bool
     ensures { result ≡ contents_right file.now }
 {
-    if !is_header(file) {
-        return false;
-    }
-    let n = u16_at(file, 6) as usize;
-    if file.len() < 8 + 12 * n {
-        return false;
-    }
-    is_chained(file, n)
+    Contents::read(file).is_ok()
 }

@@ -3,28 +3,41 @@ ghost use Rattle.std.specs.Prelude.{◌≡◌, ◌+◌, ◌*◌, ◌-◌, ◌≤
 ghost use Rattle.contents.specs.Format.{most, entries, contents_end};
 ghost use Rattle.contents.specs.Laid.{laid};
 ghost use Rattle.contents.specs.Records.{header, entry_bytes};
-ghost use Rattle.contents.specs.Save.{saved_file, saved, output_of};
+ghost use Rattle.contents.specs.Save.{number as number_of_error, saved_file, saved, output_of};
+ghost use Rattle.contents.specs.declared.save.SaveError.TheVariants.{FileWrong as FileIsWrong};
 ghost use Rattle.contents.specs.Table.{table, end_of, place_of, table_with, bodies_with};
 
-use crate::format::{MAGIC, MOST, VERSION, entry_at, is_right};
-use crate::little_endian::{put_bytes, put_u16, put_u32, u16_at};
+use crate::format::{Contents, FileWrong, MAGIC, MOST, VERSION};
+use crate::little_endian::{put_bytes, put_number};
 
-// The answer of a save.
-#[derive(Drop)]
-pub enum Saved {
-    // refusal 14
-    FileWrong,
-    // refusal 20
-    StoreFull,
-    // refusal 19
-    OutputShort,
-    // the length of the new file
-    Written(usize),
+// Why nothing is saved, by the refusal's number.
+#[derive(Clone, Copy, Debug, PartialEq, Eq)]
+pub enum SaveError {
+    FileWrong = 14,
+    StoreFull = 20,
+    OutputShort = 19,
 }
 
-// Where a satellite goes: how many entries are below it, where their bodies end, 1 if it is there and else 0, and where the
-// bodies past its own begin.
-#[derive(Drop)]
+impl SaveError {
+    // The refusal's number.
+    pub fn number(self) -> u32
+        ensures { result ≡ number_of_error self }
+    {
+        self as u32
+    }
+}
+
+impl From<FileWrong> for SaveError {
+    ghost from_gives = { λ _ e. e ≡ FileIsWrong };
+
+    fn from(_: FileWrong) -> SaveError {
+        SaveError::FileWrong
+    }
+}
+
+// Where a satellite goes: how many entries are below it, where their bodies end, how many entries it replaces, 0 or 1, and
+// where the bodies past its own begin.
+#[derive(Clone, Copy, Debug, PartialEq, Eq)]
 pub(crate) struct Place {
     pub below: usize,
     pub cut: usize,
@@ -32,44 +45,39 @@ pub(crate) struct Place {
     pub rest: usize,
 }
 
-// Where a satellite goes among the n entries of a file.
-fn find_place(file: &[u8], n: usize, satellite: u32) -> Place
-    requires { (n ≤ most) × (contents_end n ≤ length file.now) }
-    ensures { result ≡ place_of satellite 0 (contents_end n) (entries n (drop 8 file.now)) }
-{
-    let mut left = n;
-    let mut at = 8;
-    let mut below = 0;
-    let mut cut = 8 + 12 * n;
-    while 0 < left {
-        let e = entry_at(file, at);
-        if satellite < e.satellite {
-            return Place {
-                below: below,
-                cut: cut,
-                old: 0,
-                rest: cut,
-            };
+impl Contents<'_> {
+    // Where a satellite goes.
+    fn place(self, satellite: u32) -> Place
+        ensures { result ≡ place_of satellite 0 (contents_end self.entry.count) (entries self.entry.count (drop 8 self.entry.file.now)) }
+    {
+        let mut cut = 8 + 12 * self.count;
+        for below in 0..self.count {
+            let e = self.entry(below);
+            if satellite < e.satellite {
+                return Place {
+                    below,
+                    cut,
+                    old: 0,
+                    rest: cut,
+                };
+            }
+            let size = e.size as usize;
+            if satellite == e.satellite {
+                return Place {
+                    below,
+                    cut,
+                    old: 1,
+                    rest: cut + size,
+                };
+            }
+            cut += size;
         }
-        let size = e.size as usize;
-        if satellite == e.satellite {
-            return Place {
-                below: below,
-                cut: cut,
-                old: 1,
-                rest: cut + size,
-            };
+        Place {
+            below: self.count,
+            cut,
+            old: 0,
+            rest: cut,
         }
-        at = at + 12;
-        left = left - 1;
-        below = below + 1;
-        cut = cut + size;
-    }
-    Place {
-        below: below,
-        cut: cut,
-        old: 0,
-        rest: cut,
     }
 }
 
@@ -78,124 +86,110 @@ fn put_header(out: &mut [u8], n: usize)
     requires { (8 ≤ length out.old) × (n ≤ most) }
     ensures { out.new ≡ laid 0 (header n) out.old }
 {
-    put_u32(out, 0, MAGIC as u64);
-    put_u16(out, 4, VERSION as u64);
-    put_u16(out, 6, n as u64);
+    put_number::<4>(out, 0, MAGIC as u64);
+    put_number::<2>(out, 4, VERSION as u64);
+    put_number::<2>(out, 6, n as u64);
 }
 
-// Writes an entry at `at`.
-fn put_entry(out: &mut [u8], at: usize, satellite: u32, offset: usize, size: usize)
-    requires { at + 12 ≤ length out.old }
-    ensures { out.new ≡ laid at (entry_bytes satellite offset size) out.old }
+// Writes entry i of a file.
+fn put_entry(out: &mut [u8], i: usize, satellite: u32, offset: usize, size: usize)
+    requires { contents_end (i + 1) ≤ length out.old }
+    ensures { out.new ≡ laid (contents_end i) (entry_bytes satellite offset size) out.old }
 {
-    put_u32(out, at, satellite as u64);
-    put_u32(out, at + 4, offset as u64);
-    put_u32(out, at + 8, size as u64);
+    let at = 8 + 12 * i;
+    put_number::<4>(out, at, satellite as u64);
+    put_number::<4>(out, at + 4, offset as u64);
+    put_number::<4>(out, at + 8, size as u64);
 }
 
-// Writes the n entries of a file that stand from `from` on, at `at`, with bodies from `start` on. Returns where these end.
-fn put_entries(out: &mut [u8], at: usize, file: &[u8], from: usize, n: usize, start: usize) -> usize
-    requires { (at + 12 * n ≤ length out.old) × (from + 12 * n ≤ length file.now) × (n ≤ most) × (start < 2 ^ 48) }
-    ensures { (result ≡ end_of start (entries n (drop from file.now)))
-        × (out.new ≡ laid at (table start (entries n (drop from file.now))) out.old) }
+// Writes the n entries of a file that stand from `from` on as those from `to` on, with bodies from `start` on. Returns where
+// these end.
+fn put_entries(
+    out: &mut [u8],
+    to: usize,
+    contents: Contents<'_>,
+    from: usize,
+    n: usize,
+    start: usize,
+) -> usize
+    requires { (contents_end (to + n) ≤ length out.old) × (from + n ≤ contents.count) × (start < 2 ^ 48) }
+    ensures { (result ≡ end_of start (entries n (drop (contents_end from) contents.entry.file.now)))
+        × (out.new ≡ laid (contents_end to) (table start (entries n (drop (contents_end from) contents.entry.file.now))) out.old) }
 {
-    let mut left = n;
-    let mut src = from;
-    let mut dst = at;
     let mut body = start;
-    while 0 < left {
-        let e = entry_at(file, src);
+    for i in 0..n {
+        let e = contents.entry(from + i);
         let size = e.size as usize;
-        put_entry(out, dst, e.satellite, body, size);
-        src = src + 12;
-        dst = dst + 12;
-        body = body + size;
-        left = left - 1;
+        put_entry(out, to + i, e.satellite, body, size);
+        body += size;
     }
     body
 }
 
-// Writes the contents of the new file, with the new entry past `below` others, in place of `old` ones.
-fn put_table(
-    out: &mut [u8],
-    file: &[u8],
-    n: usize,
-    below: usize,
-    old: usize,
-    satellite: u32,
-    size: usize,
-)
-    requires { (n ≤ most) × (old ≤ 1) × (below + old ≤ n)
-        × (contents_end n ≤ length file.now) × (contents_end (n + 1 - old) ≤ length out.old)
-        × (end_of (contents_end (n + 1 - old)) (entries below (drop 8 file.now)) + size < 2 ^ 48) }
-    ensures { out.new ≡ laid 8 (table_with file.now n below old satellite size) out.old }
+// Writes the contents of the new file, with the new entry in its place among those of the old one.
+fn put_table(out: &mut [u8], contents: Contents<'_>, p: Place, satellite: u32, size: usize)
+    requires { (p.old ≤ 1) × (p.below + p.old ≤ contents.count) × (contents_end (contents.count + 1 - p.old) ≤ length out.old)
+        × (end_of (contents_end (contents.count + 1 - p.old)) (entries p.below (drop 8 contents.file.now)) + size < 2 ^ 48) }
+    ensures { out.new ≡ laid 8 (table_with contents.entry.file.now contents.entry.count p.below p.old satellite size) out.old }
 {
-    let past = below + old;
-    let mid = put_entries(out, 8, file, 8, below, 8 + 12 * (n + 1 - old));
-    put_entry(out, 8 + 12 * below, satellite, mid, size);
+    let past = p.below + p.old;
+    let mid = put_entries(
+        out,
+        0,
+        contents,
+        0,
+        p.below,
+        8 + 12 * (contents.count + 1 - p.old),
+    );
+    put_entry(out, p.below, satellite, mid, size);
     put_entries(
         out,
-        20 + 12 * below,
-        file,
-        8 + 12 * past,
-        n - past,
+        p.below + 1,
+        contents,
+        past,
+        contents.count - past,
         mid + size,
     );
 }
 
-// Writes the bodies of the new file at `at`: those of the old file from `end` to `cut`, the new one, and those from `rest` on.
-fn put_bodies(
-    out: &mut [u8],
-    at: usize,
-    file: &[u8],
-    end: usize,
-    cut: usize,
-    rest: usize,
-    body: &[u8],
-)
-    requires { (end ≤ cut) × (cut ≤ rest) × (rest ≤ length file.now)
-        × (at + (cut - end) + length body.now + (length file.now - rest) ≤ length out.old) }
-    ensures { out.new ≡ laid at (bodies_with file.now end cut rest body.now) out.old }
+// Writes the bodies of the new file at `at`: those of the old file from `end` to the place, the new one, and those past it.
+fn put_bodies(out: &mut [u8], at: usize, file: &[u8], end: usize, p: Place, body: &[u8])
+    requires { (end ≤ p.cut) × (p.cut ≤ p.rest) × (p.rest ≤ length file.now)
+        × (at + (p.cut - end) + length body.now + (length file.now - p.rest) ≤ length out.old) }
+    ensures { out.new ≡ laid at (bodies_with file.now end p.cut p.rest body.now) out.old }
 {
-    put_bytes(out, at, &file[end..cut]);
-    let here = at + (cut - end);
+    put_bytes(out, at, &file[end..p.cut]);
+    let here = at + (p.cut - end);
     put_bytes(out, here, body);
-    put_bytes(out, here + body.len(), &file[rest..]);
+    put_bytes(out, here + body.len(), &file[p.rest..]);
 }
 
-// Writes the old file with one record added or replaced into `out`.
-pub fn save(file: &[u8], out: &mut [u8], satellite: u32, body: &[u8]) -> Saved
+// Writes the old file with one record added or replaced into `out`. Returns the length of the new file.
+pub fn save(file: &[u8], out: &mut [u8], satellite: u32, body: &[u8]) -> Result<usize, SaveError>
     ensures { (result ≡ saved file.now satellite body.now (length out.old))
         × (out.new ≡ output_of result (saved_file file.now satellite body.now) out.old) }
 {
-    if !is_right(file) {
-        return Saved::FileWrong;
-    }
-    let n = u16_at(file, 6) as usize;
-    let p = find_place(file, n, satellite);
-    let below = p.below;
-    let cut = p.cut;
-    let old = p.old;
-    let rest = p.rest;
-    let count = n + 1 - old;
+    let contents = Contents::read(file)?;
+    let p = contents.place(satellite);
+    let count = contents.count + 1 - p.old;
     if MOST < count {
-        return Saved::StoreFull;
+        return Err(SaveError::StoreFull);
     }
     let size = body.len();
     if 0xFFFF_FFFF < size {
-        return Saved::StoreFull;
+        return Err(SaveError::StoreFull);
     }
-    let end = 8 + 12 * n;
+    let end = 8 + 12 * contents.count;
     let start = 8 + 12 * count;
-    let total = start + (cut - end) + size + (file.len() - rest);
+    let total = start + (p.cut - end) + size + (file.len() - p.rest);
     if 0xFFFF_FFFF < total {
-        return Saved::StoreFull;
+        return Err(SaveError::StoreFull);
     }
     if out.len() < total {
-        return Saved::OutputShort;
+        return Err(SaveError::OutputShort);
     }
     put_header(out, count);
-    put_table(out, file, n, below, old, satellite, size);
-    put_bodies(out, start, file, end, cut, rest, body);
-    Saved::Written(total)
+    put_table(out, contents, p, satellite, size);
+    put_bodies(out, start, file, end, p, body);
+    Ok(total)
 }

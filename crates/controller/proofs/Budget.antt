@@ -1,41 +1,35 @@
 -- How much stepping asks can cost: an ask that moves T reports the steps between the two times, by demand 3 and what an advance reports. Assumes nothing.
 use mathlib.Core.Path.{◌≡◌, refl, sym, ap, ◌∙◌, subst}
-use mathlib.Core.Bool.{Bool, true, false, cond, ◌&&◌, false≢true}
+use mathlib.Core.Bool.{Bool, true, false, cond, ◌&&◌}
 use mathlib.Core.List.{List, [], ◌∷◌}
 use Prim.Native.Nat.{ℕ, ◌+◌}
 use native.Mathlib.Nat.{add-zero, zero-add, add_assoc, le_trans, le_of_eq}
 use native.Mathlib.Omega.{arith}
 use lib.Dec.{T}
 use lib.Ieee.{Float, binary64, fits}
-use lib.Ieee.Fits.{and_l, and_r}
+use Rattle.std.specs.Prelude.{Option, Some, None, Result, Ok, Err}
 use Rattle.orbit.specs.declared.propagator.Resonance.{Resonance}
 use Rattle.orbit.specs.declared.propagator.Resonant.{Resonant}
 use Rattle.orbit.specs.declared.propagator.Resonant.TheVariants.{No, Yes}
 use Rattle.orbit.specs.declared.propagator.Constants.{Constants}
 use Rattle.elements.specs.declared.elements.Question.{Question}
-use Rattle.times.specs.declared.time.Checked.{Checked}
-use Rattle.times.specs.declared.time.Checked.TheVariants.{Passed, Refused as refusedCheck}
+use Rattle.times.specs.declared.time.Fault.{Fault}
 use Rattle.rates.specs.declared.Integrator.{Integrator}
 use Rattle.resonance.specs.declared.state.ResonanceState.{ResonanceState}
-use Rattle.resonance.specs.declared.state.MaybeState.{MaybeState}
-use Rattle.resonance.specs.declared.state.MaybeState.TheVariants.{None, Some}
-use Rattle.resonance.specs.declared.advance.Advanced.{Advanced}
-use Rattle.resonance.specs.declared.advance.Advanced.TheVariants.{At, Refused as refusedAdvance}
-use Rattle.resonance.specs.declared.ask.Answer.{Answer}
-use Rattle.resonance.specs.declared.ask.Answer.TheVariants.{Refused, Reached}
-use Rattle.resonance.specs.declared.ask.StateAsked.{StateAsked}
+use Rattle.resonance.specs.declared.state.Refused.{Refused}
+use Rattle.resonance.specs.declared.advance.Walked.{Walked}
+use Rattle.resonance.specs.declared.ask.Asked.{Asked}
 use Rattle.times.specs.Time.{number, back, placed}
 use Rattle.resonance.specs.State.{fresh_of, finite_state, integrator}
-use Rattle.resonance.specs.Advance.{steps, made, agrees, advance_of, replay_of}
-use Rattle.resonance.specs.Ask.{numbers_refusal, node_of, reached_by, advanced_by, resonant_ask, kind_ask, checked_ask, state_ask_of, ask_of}
+use Rattle.resonance.specs.Advance.{steps, made, walked, agrees, advance_of, replay_of}
+use Rattle.resonance.specs.Ask.{Answer, numbers_refusal, node_of, reached_by, advanced_by, resonant_ask, kind_ask, checked_ask, state_ask_of, ask_of}
 use Rattle.times.proofs.Placed.{at-number}
 use Rattle.resonance.proofs.Steps.{steps-keep, step_fits, steps-place, made_all}
 use Rattle.stepping.proofs.Laws.{reported}
 use Rattle.body.specs.Examine.{replayed}
-use Rattle.store.specs.declared.restore.Restored.{Restored}
-use Rattle.store.specs.declared.restore.Restored.TheVariants as R
+use Rattle.body.specs.declared.examine.Record.{Record}
+use Rattle.store.specs.declared.restore.RestoreError.{RestoreError}
 use Rattle.store.specs.Restore.{restored_from}
-use Rattle.controller.specs.declared.Restoring.TheVariants.{Accepted}
 use Rattle.controller.specs.Running.{asked_of, restored_by, restore_of}
 use Rattle.controller.specs.Demand.{Event, asks, saves, resets, restores, Session, time_after, after_restore, stored_time, happen, run, start, GoodBy, Good}
 use Rattle.controller.specs.Budget.{Between, asked, StepsAdd, ReplaySteps}
@@ -61,42 +55,38 @@ module _ (c : Constants) (lambda-0 lambda-dot-0 theta_0 : Float) (r : Resonance)
   own-fits : T (fits binary64 s.t)
   own-fits = steps-keep i (back T₀) (λ (x : ResonanceState). T (fits binary64 x.t)) (step_fits i (back T₀)) (number T₀) f s (unfold fits in tt) good.1
 
-  abbrev Counts : StateAsked → Type 0
+  abbrev Counts : Asked ResonanceState → Type 0
   Counts a = number T₀ + a.steps ≡ number (time_after T₀ q.t a.answer)
 
-  node_counts : (n : ResonanceState) (k : ℕ) → advance_of i s q.t ≡ At n k → (a : Answer) → Counts (reached_by s n k a)
-  node_counts n k e (Refused g) = add-zero (number T₀)
-  node_counts n k e (Reached o) =
+  node_counts : (n : ResonanceState) (k : ℕ) → advance_of i s q.t ≡ Ok (walked n k) → (a : Answer) → Counts (reached_by s n k a)
+  node_counts n k e (Err g) = add-zero (number T₀)
+  node_counts n k e (Ok o) =
       let p = reported i s q.t n k own-fits e in
       let m = own-number in
       let le = p.0 in
       let d = p.1 in
       omega arith
 
-  advance-counts : (x : Advanced) → advance_of i s q.t ≡ x → Counts (advanced_by c i theta_0 s q x)
-  advance-counts (refusedAdvance g z) e = add-zero (number T₀)
-  advance-counts (At n k) e = node_counts n k e (node_of c i theta_0 n q)
+  advance-counts : (x : Result Walked Refused) → advance_of i s q.t ≡ x → Counts (advanced_by c i theta_0 s q x)
+  advance-counts (Err g) e = add-zero (number T₀)
+  advance-counts (Ok w) e = node_counts w.state w.steps e (node_of c i theta_0 w.state q)
 
   ask-counts : Counts (state_ask_of c s q)
   ask-counts = unfold state_ask_of in go (numbers_refusal c q (finite_state s))
     where
-      go : (x : Checked) → Counts (checked_ask c s q x)
-      go (refusedCheck g) = add-zero (number T₀)
-      go Passed = subst (λ (x : Resonant). Counts (kind_ask c s q x)) (sym kind) (unfold resonant_ask in advance-counts (advance_of i s q.t) refl)
+      go : (x : Result (Unit {0}) Fault) → Counts (checked_ask c s q x)
+      go (Err g) = add-zero (number T₀)
+      go (Ok _) = subst (λ (x : Resonant). Counts (kind_ask c s q x)) (sym kind) (unfold resonant_ask in advance-counts (advance_of i s q.t) refl)
 
 -- ---- a list of events
 
 -- what is in force keeps its constants between two resets or accepted restores
-refused-restore : (w : Session) (s : List ℕ) (x : ℕ) → ((restore_of w.controller s x).answer ≡ Accepted → ⊥) → happen w (restores s x) ≡ w
+refused-restore : (w : Session) (s : List ℕ) (x : ℕ) → ((restore_of w.controller s x).answer ≡ Ok tt → ⊥) → happen w (restores s x) ≡ w
 refused-restore w s x h = go (restored_from s x) h
   where
-    go : (a : Restored) → ((restored_by w.controller a).answer ≡ Accepted → ⊥) → after_restore w (restored_by w.controller a) ≡ w
-    go R.FileWrong h = refl
-    go R.SatelliteMissing h = refl
-    go R.BodyWrong h = refl
-    go R.NumberNotFinite h = refl
-    go (R.StateWrong k) h = refl
-    go (R.Of c z k) h = absurd (h refl)
+    go : (a : Result Record RestoreError) → ((restored_by w.controller a).answer ≡ Ok tt → ⊥) → after_restore w (restored_by w.controller a) ≡ w
+    go (Err e) h = refl
+    go (Ok r) h = absurd (h refl)
 
 module _ (lambda-0 lambda-dot-0 theta_0 : Float) (r : Resonance) where
   abbrev Same : Session → Type 0
@@ -106,7 +96,7 @@ module _ (lambda-0 lambda-dot-0 theta_0 : Float) (r : Resonance) where
   ask-adds w kind good q =
       go w.controller.state (subst (λ (x : Resonant). GoodBy w.controller.constants x w.controller.state w.time) kind good)
     where
-      go : (s : MaybeState) → GoodBy w.controller.constants (Yes lambda-0 lambda-dot-0 theta_0 r) s w.time
+      go : (s : Option ResonanceState) → GoodBy w.controller.constants (Yes lambda-0 lambda-dot-0 theta_0 r) s w.time
           → number w.time + (ask_of w.controller.constants s q).steps ≡ number (time_after w.time q.t (ask_of w.controller.constants s q).answer)
       go None g = absurd (g.2 refl)
       go (Some s) g = ask-counts w.controller.constants lambda-0 lambda-dot-0 theta_0 r kind s w.time g q
@@ -150,34 +140,30 @@ steps-add c before es lambda-0 lambda-dot-0 theta_0 r kind b =
 
 -- ---- a restore
 
-replay-steps-of : (c : Constants) (z : MaybeState) → (replayed c c.resonant z).same ≡ true → (replayed c c.resonant z).steps ≡ number (stored_time z)
-replay-steps-of c z p = go c.resonant z p
+-- a replay that answers `Ok` has made the steps of its place
+replay-steps-of : (c : Constants) (z : Option ResonanceState) (m : ℕ) → replayed c c.resonant z ≡ Ok m → m ≡ number (stored_time z)
+replay-steps-of c z m p = go c.resonant z p
   where
-    go : (r : Resonant) (z : MaybeState) → (replayed c r z).same ≡ true → (replayed c r z).steps ≡ number (stored_time z)
-    go (No a0) None p = refl
-    go (No a0) (Some z) p = absurd (false≢true p)
-    go (Yes lambda-0 lambda-dot-0 theta_0 r) None p = absurd (false≢true p)
-    go (Yes lambda-0 lambda-dot-0 theta_0 r) (Some z) p =
-        unfold replay_of in
-        let i = integrator c.orbit_0 lambda-dot-0 r in
-        let f = fresh_of c.orbit_0.mean_motion lambda-0 in
-        let b = back z.t in
-        let k = number z.t in
-        let t : T (placed z.t && agrees z (steps i b k f)) = subst T (sym p) tt in
-        at i f b k z (placed z.t) (and_l (placed z.t) (agrees z (steps i b k f)) t) (steps i b k f) refl (and_r (placed z.t) (agrees z (steps i b k f)) t)
+    ok : (i : Integrator) (f : ResonanceState) (b : Bool) (k : ℕ) (z : ResonanceState) (p : Bool) (o : Option ResonanceState) → steps i b k f ≡ o
+        → ◌≡◌ {A = Result ℕ ℕ} (cond (p && agrees z o) (Ok (cond p (made i b k f) 0)) (Err (cond p (made i b k f) 0))) (Ok m) → m ≡ k
+    ok i f b k z false o e h = cc
+    ok i f b k z true None e h = cc
+    ok i f b k z true (Some n) e h = go (agrees z (Some n)) h ∙ made_all i b k f n e
       where
-        at : (i : Integrator) (f : ResonanceState) (b : Bool) (k : ℕ) (z : ResonanceState) (p : Bool) → T p → (o : MaybeState) → steps i b k f ≡ o → T (agrees z o) → cond p (made i b k f) 0 ≡ k
-        at i f b k z false t o e a = absurd t
-        at i f b k z true t None e a = absurd a
-        at i f b k z true t (Some n) e a = made_all i b k f n e
+        go : (a : Bool) → ◌≡◌ {A = Result ℕ ℕ} (cond a (Ok (made i b k f)) (Err (made i b k f))) (Ok m) → m ≡ made i b k f
+        go true h = cc
+        go false h = cc
+
+    go : (r : Resonant) (z : Option ResonanceState) → replayed c r z ≡ Ok m → m ≡ number (stored_time z)
+    go (No a0) None p = cc
+    go (No a0) (Some z) p = cc
+    go (Yes lambda-0 lambda-dot-0 theta_0 r) None p = cc
+    go (Yes lambda-0 lambda-dot-0 theta_0 r) (Some z) p =
+        unfold replay_of in ok (integrator c.orbit_0 lambda-dot-0 r) (fresh_of c.orbit_0.mean_motion lambda-0) (back z.t) (number z.t) z (placed z.t) _ refl p
 
 pub replay-steps : ReplaySteps
 replay-steps v s x h = go (restored_from s x) refl h
   where
-    go : (a : Restored) → restored_from s x ≡ a → (restored_by v a).answer ≡ Accepted → (restored_by v a).steps ≡ number (stored_time (restored_by v a).controller.state)
-    go R.FileWrong e h = let w : ◌≡◌ {A = ℕ} 0 1 = cc in absurd (omega arith)
-    go R.SatelliteMissing e h = let w : ◌≡◌ {A = ℕ} 0 1 = cc in absurd (omega arith)
-    go R.BodyWrong e h = let w : ◌≡◌ {A = ℕ} 0 1 = cc in absurd (omega arith)
-    go R.NumberNotFinite e h = let w : ◌≡◌ {A = ℕ} 0 1 = cc in absurd (omega arith)
-    go (R.StateWrong k) e h = let w : ◌≡◌ {A = ℕ} 0 1 = cc in absurd (omega arith)
-    go (R.Of c z k) e h = let p = restored-held s x c z k e in p.steps ∙ replay-steps-of c z p.same
+    go : (a : Result Record RestoreError) → restored_from s x ≡ a → (restored_by v a).answer ≡ Ok tt → (restored_by v a).steps ≡ number (stored_time (restored_by v a).controller.state)
+    go (Err e) p h = cc
+    go (Ok r) p h = replay-steps-of r.constants r.state r.steps (restored-held s x r p).replay

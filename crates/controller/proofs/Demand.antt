@@ -2,12 +2,13 @@
 -- and an accepted restore brings the state that its own steps give, since floats read from bytes are equal where their bits are. Assumes nothing.
 use mathlib.Core.Path.{◌≡◌, refl, sym, ap, ◌∙◌, subst}
 use Prim.Native.Nat.{ℕ}
-use mathlib.Core.Bool.{Bool, true, false, not, cond, ◌&&◌, false≢true}
+use mathlib.Core.Bool.{Bool, true, false, not, cond, ◌&&◌}
 use mathlib.Core.List.{List, [], ◌∷◌}
 use lib.Dec.{T, eqb, eqb→eq, lit≤}
 use lib.Ieee.{Float, binary64, fits, to_bits, of_bits}
 use lib.Ieee.Bits.{of_bits-to_bits, of_bits-fits}
 use lib.Ieee.Fits.{add-fits, and_l, and_r}
+use Rattle.std.specs.Prelude.{Option, Some, None, Result, Ok, Err}
 use Rattle.floats.specs.Value.{same_bits, at_most, negative, is_zero}
 use Rattle.orbit.specs.declared.propagator.Resonance.{Resonance}
 use Rattle.orbit.specs.declared.propagator.Resonant.{Resonant}
@@ -15,33 +16,27 @@ use Rattle.orbit.specs.declared.propagator.Resonant.TheVariants.{No, Yes}
 use Rattle.orbit.specs.declared.propagator.Constants.{Constants}
 use Rattle.elements.specs.declared.elements.Question.{Question}
 use Rattle.times.specs.declared.time.Fault.{Fault}
-use Rattle.times.specs.declared.time.Checked.{Checked}
-use Rattle.times.specs.declared.time.Checked.TheVariants.{Passed, Refused as refusedCheck}
 use Rattle.rates.specs.declared.Integrator.{Integrator}
 use Rattle.resonance.specs.declared.state.ResonanceState.{ResonanceState}
-use Rattle.resonance.specs.declared.state.MaybeState.{MaybeState}
-use Rattle.resonance.specs.declared.state.MaybeState.TheVariants.{None, Some}
-use Rattle.resonance.specs.declared.ask.Answer.{Answer}
-use Rattle.resonance.specs.declared.ask.Answer.TheVariants.{Refused, Reached}
-use Rattle.resonance.specs.declared.ask.StateAsked.{StateAsked}
+use Rattle.resonance.specs.declared.ask.Asked.{Asked}
 use Rattle.times.specs.Time.{limit, number, back, zero_time, placed, multiple, refusal}
 use Rattle.resonance.specs.State.{fresh_of, fresh_by, fresh, finite_state, same_state, step_of, integrator}
-use Rattle.resonance.specs.Advance.{steps, agrees, replay_of}
-use Rattle.resonance.specs.Ask.{numbers_refusal, given_back, advanced_by, resonant_ask, kind_ask, checked_ask, plain_ask, checked_none, state_ask_of, none_ask_of, ask_of}
+use Rattle.resonance.specs.Advance.{steps, made, agrees, replay_of}
+use Rattle.resonance.specs.Ask.{Answer, numbers_refusal, given_back, advanced_by, resonant_ask, kind_ask, checked_ask, state_ask_of, ask_of}
 use Rattle.record.specs.Record.{constants_of, resonant_of, one_day_of, half_day_of}
+use Rattle.body.specs.declared.examine.Record.{Record}
 use Rattle.body.specs.Floats.{float_at, floats}
 use Rattle.body.specs.Body.{state_start}
 use Rattle.body.specs.Examine.{replayed as replayedOf}
 use Rattle.body.specs.Read.{kind_in, constants_in, state_at, held_at}
 use Rattle.body.proofs.Passes.{read-passes}
 use Rattle.store.proofs.Kept.{restored-read}
-use Rattle.store.specs.declared.restore.Restored.{Restored}
-use Rattle.store.specs.declared.restore.Restored.TheVariants as R
+use Rattle.store.specs.declared.restore.RestoreError.{RestoreError}
 use Rattle.store.specs.Restore.{restored_from}
 use Rattle.controller.specs.Running.{restored_by}
 use Rattle.controller.specs.Demand.{Event, asks, saves, resets, restores, Session, time_after, after_restore, stored_time, happen, run, start, GoodBy, Good, Demand3}
 use Rattle.times.proofs.Accepted.{accepted-most, number-most}
-use Rattle.resonance.proofs.Steps.{no-state, step_is, steps-keep}
+use Rattle.resonance.proofs.Steps.{step_is, steps-keep}
 use Rattle.resonance.proofs.Walk.{advance-refused}
 use Rattle.controller.proofs.Restart.{OnNode, resonant}
 
@@ -53,7 +48,7 @@ pub record Held (z : ResonanceState) : Type 0 where
   pub motion : T (fits binary64 z.mean_motion)
   pub longitude : T (fits binary64 z.lambda)
 
-abbrev pub HeldMaybe : MaybeState → Type 0
+abbrev pub HeldMaybe : Option ResonanceState → Type 0
 HeldMaybe None = Unit {0}
 HeldMaybe (Some z) = Held z
 
@@ -80,6 +75,11 @@ step-held i b s n p =
 
 -- ---- a resonant orbit
 
+-- a replay answers `Ok` where its test holds
+passes : (b : Bool) (n k : ℕ) → ◌≡◌ {A = Result ℕ ℕ} (cond b (Ok n) (Err n)) (Ok k) → T b
+passes true n k p = tt
+passes false n k p = cc
+
 module _ (c : Constants) (lambda-0 lambda-dot-0 theta_0 : Float) (r : Resonance) (kind : c.resonant ≡ Yes lambda-0 lambda-dot-0 theta_0 r) where
   abbrev i : Integrator
   i = integrator c.orbit_0 lambda-dot-0 r
@@ -87,56 +87,53 @@ module _ (c : Constants) (lambda-0 lambda-dot-0 theta_0 : Float) (r : Resonance)
   abbrev f : ResonanceState
   f = fresh_of c.orbit_0.mean_motion lambda-0
 
-  abbrev GoodAt : MaybeState → Float → Type 0
+  abbrev GoodAt : Option ResonanceState → Float → Type 0
   GoodAt s T = GoodBy c (Yes lambda-0 lambda-dot-0 theta_0 r) s T
-
-  some : (s : ResonanceState) → Some s ≡ None → ⊥
-  some s p = no-state s (sym p)
 
   fresh-good : GoodAt (Some f) zero_time
   unfolding steps
-  fresh-good = (lit≤ tt, refl, some f)
+  fresh-good = (lit≤ tt, refl, λ p. cc)
 
   -- an ask of the state in force
   module _ (s : ResonanceState) (T₀ : Float) (good : GoodAt (Some s) T₀) (q : Question) where
-    abbrev After : StateAsked → Type 0
+    abbrev After : Asked ResonanceState → Type 0
     After a = GoodAt (Some a.state) (time_after T₀ q.t a.answer)
 
     resonant-after : After (resonant_ask c i theta_0 s q)
     resonant-after = go (refusal s.t q.t) refl
       where
-        passed : (a : StateAsked) (expected : Answer) → refusal s.t q.t ≡ Passed → OnNode a s expected (steps i (back q.t) (number q.t) f) → (o : Answer) → a.answer ≡ o → GoodAt (Some a.state) (time_after T₀ q.t o)
-        passed a e p w (Refused g) k = subst (λ (x : ResonanceState). GoodAt (Some x) T₀) (sym (w.given g k)) good
-        passed a e p w (Reached o) k = (accepted-most s.t q.t p, sym (w.state o k), some a.state)
+        passed : (a : Asked ResonanceState) (expected : Answer) → refusal s.t q.t ≡ Ok tt → OnNode a s expected (steps i (back q.t) (number q.t) f) → (o : Answer) → a.answer ≡ o → GoodAt (Some a.state) (time_after T₀ q.t o)
+        passed a e p w (Err g) k = subst (λ (x : ResonanceState). GoodAt (Some x) T₀) (sym (w.given g k)) good
+        passed a e p w (Ok o) k = (accepted-most s.t q.t p, sym (w.state o k), λ p. cc)
 
-        go : (x : Checked) → refusal s.t q.t ≡ x → After (resonant_ask c i theta_0 s q)
-        go Passed p =
+        go : (x : Result (Unit {0}) Fault) → refusal s.t q.t ≡ x → After (resonant_ask c i theta_0 s q)
+        go (Ok _) p =
             let a = resonant_ask c i theta_0 s q in
             passed a _ p (resonant c i c.orbit_0.mean_motion lambda-0 theta_0 q s (back T₀, number T₀, good.0, good.1) p) a.answer refl
-        go (refusedCheck g) p = subst After (refused-ask g p) good
+        go (Err g) p = subst After (refused-ask g p) good
           where
-            refused-ask : (g : Fault) → refusal s.t q.t ≡ refusedCheck g → given_back g s ≡ resonant_ask c i theta_0 s q
+            refused-ask : (g : Fault) → refusal s.t q.t ≡ Err g → given_back g s ≡ resonant_ask c i theta_0 s q
             refused-ask g p = unfold resonant_ask in (ap (advanced_by c i theta_0 s q) (advance-refused i s q.t g p))
 
     ask-after : After (state_ask_of c s q)
     unfolding state_ask_of
     ask-after = go (numbers_refusal c q (finite_state s))
       where
-        go : (x : Checked) → After (checked_ask c s q x)
-        go (refusedCheck g) = good
-        go Passed = subst (λ (x : Resonant). After (kind_ask c s q x)) (sym kind) resonant-after
+        go : (x : Result (Unit {0}) Fault) → After (checked_ask c s q x)
+        go (Err g) = good
+        go (Ok _) = subst (λ (x : Resonant). After (kind_ask c s q x)) (sym kind) resonant-after
 
   -- a state that passes 18
-  replayed : (z : ResonanceState) → Held f → Held z → (replay_of i c.orbit_0.mean_motion lambda-0 z).same ≡ true → GoodAt (Some z) z.t
+  replayed : (z : ResonanceState) (k : ℕ) → Held f → Held z → replay_of i c.orbit_0.mean_motion lambda-0 z ≡ Ok k → GoodAt (Some z) z.t
   unfolding replay_of
-  replayed z hf hz p =
+  replayed z k hf hz p =
       let o = steps i (back z.t) (number z.t) f in
-      let t : T (placed z.t && agrees z o) = subst T (sym p) tt in
+      let t : T (placed z.t && agrees z o) = passes (placed z.t && agrees z o) (cond (placed z.t) (made i (back z.t) (number z.t) f) 0) k p in
       let set : T (placed z.t) = and_l (placed z.t) (agrees z o) t in
       let near : T (at_most limit z.t) = and_r (multiple z.t) (at_most limit z.t) (and_l (multiple z.t && at_most limit z.t) (not (negative z.t && is_zero z.t)) set) in
-      (number-most z.t near, go o refl (and_r (placed z.t) (agrees z o) t), some z)
+      (number-most z.t near, go o refl (and_r (placed z.t) (agrees z o) t), λ p. cc)
     where
-      go : (o : MaybeState) → steps i (back z.t) (number z.t) f ≡ o → T (agrees z o) → steps i (back z.t) (number z.t) f ≡ Some z
+      go : (o : Option ResonanceState) → steps i (back z.t) (number z.t) f ≡ o → T (agrees z o) → steps i (back z.t) (number z.t) f ≡ Some z
       go None e t = absurd t
       go (Some x) e t = e ∙ ap Some (states-same x z (steps-keep i (back z.t) Held (step-held i (back z.t)) (number z.t) f x hf e) hz t)
 
@@ -163,33 +160,22 @@ fresh-held b = go (eqb (kind_in b) 1) (eqb (kind_in b) 2)
     go false true = record { time = tt; motion = floats-fit 88 b; longitude = floats-fit 168 b }
     go false false = tt
 
-pub record Brought (c : Constants) (z : MaybeState) (k : ℕ) : Type 0 where
-  pub fresh : HeldMaybe (fresh c)
-  pub state : HeldMaybe z
-  pub same : (replayedOf c c.resonant z).same ≡ true
-  pub steps : k ≡ (replayedOf c c.resonant z).steps
+pub record Brought (r : Record) : Type 0 where
+  pub fresh : HeldMaybe (fresh r.constants)
+  pub state : HeldMaybe r.state
+  pub replay : replayedOf r.constants r.constants.resonant r.state ≡ Ok r.steps
 
-pub restored-held : (s : List ℕ) (x : ℕ) (c : Constants) (z : MaybeState) (k : ℕ) → restored_from s x ≡ R.Of c z k → Brought c z k
-restored-held s x c z k h =
-    let r = restored-read s x c z k h in
-    let b = r.0 in
-    let p = read-passes b c z k r.1 in
+pub restored-held : (s : List ℕ) (x : ℕ) (r : Record) → restored_from s x ≡ Ok r → Brought r
+restored-held s x r h =
+    let b = restored-read s x r h in
+    let p = read-passes b.0 r b.1 in
     record {
-      fresh = subst (λ (d : Constants). HeldMaybe (fresh d)) (sym p.constants) (fresh-held b);
-      state = subst HeldMaybe (sym p.state) (state-held (kind_in b) b);
-      same = p.same;
-      steps = p.steps;
+      fresh = subst (λ (d : Constants). HeldMaybe (fresh d)) (sym p.constants) (fresh-held b.0);
+      state = subst HeldMaybe (sym p.state) (state-held (kind_in b.0) b.0);
+      replay = p.replay;
     }
 
 -- ---- each event, and the list
-
-none-ask : (c : Constants) (a0 : Float) (q : Question) → c.resonant ≡ No a0 → (none_ask_of c q).state ≡ None
-unfolding none_ask_of
-none-ask c a0 q kind = go (numbers_refusal c q true)
-  where
-    go : (x : Checked) → (checked_none c q x).state ≡ None
-    go (refusedCheck g) = refl
-    go Passed = ap (λ (k : Resonant). (plain_ask c q k).state) kind
 
 module _ (w : Session) where
   abbrev k : Constants
@@ -197,39 +183,35 @@ module _ (w : Session) where
 
   after-ask : (r : Resonant) → k.resonant ≡ r → GoodBy k r w.controller.state w.time → (q : Question)
       → GoodBy k r (happen w (asks q)).controller.state (happen w (asks q)).time
-  after-ask (No a0) kind good q = ap (λ (s : MaybeState). (ask_of k s q).state) good ∙ none-ask k a0 q kind
+  after-ask (No a0) kind good q = ap (λ (s : Option ResonanceState). (ask_of k s q).state) good
   after-ask (Yes lambda-0 lambda-dot-0 theta_0 r) kind good q = go w.controller.state good
     where
-      go : (s : MaybeState) → GoodBy k (Yes lambda-0 lambda-dot-0 theta_0 r) s w.time → GoodBy k (Yes lambda-0 lambda-dot-0 theta_0 r) (ask_of k s q).state (time_after w.time q.t (ask_of k s q).answer)
+      go : (s : Option ResonanceState) → GoodBy k (Yes lambda-0 lambda-dot-0 theta_0 r) s w.time → GoodBy k (Yes lambda-0 lambda-dot-0 theta_0 r) (ask_of k s q).state (time_after w.time q.t (ask_of k s q).answer)
       go None g = absurd (g.2 refl)
       go (Some s) g = ask-after k lambda-0 lambda-dot-0 theta_0 r kind s w.time g q
 
 fresh_at : (c : Constants) (r : Resonant) → c.resonant ≡ r → GoodBy c r (fresh c) zero_time
 fresh_at c (No a0) kind = ap (fresh_by c.orbit_0.mean_motion) kind
 fresh_at c (Yes lambda-0 lambda-dot-0 theta_0 r) kind =
-    subst (λ (s : MaybeState). GoodBy c (Yes lambda-0 lambda-dot-0 theta_0 r) s zero_time) (sym (ap (fresh_by c.orbit_0.mean_motion) kind)) (fresh-good c lambda-0 lambda-dot-0 theta_0 r kind)
+    subst (λ (s : Option ResonanceState). GoodBy c (Yes lambda-0 lambda-dot-0 theta_0 r) s zero_time) (sym (ap (fresh_by c.orbit_0.mean_motion) kind)) (fresh-good c lambda-0 lambda-dot-0 theta_0 r kind)
 
 -- a record that passes its replay
-after-replay : (c : Constants) (s : MaybeState) → HeldMaybe (fresh c) → HeldMaybe s → (replayedOf c c.resonant s).same ≡ true → GoodBy c c.resonant s (stored_time s)
-after-replay c s hf hs p = go c.resonant refl s hs p
+after-replay : (c : Constants) (s : Option ResonanceState) (k : ℕ) → HeldMaybe (fresh c) → HeldMaybe s → replayedOf c c.resonant s ≡ Ok k → GoodBy c c.resonant s (stored_time s)
+after-replay c s k hf hs p = go c.resonant refl s hs p
   where
-    go : (r : Resonant) → c.resonant ≡ r → (s : MaybeState) → HeldMaybe s → (replayedOf c r s).same ≡ true → GoodBy c r s (stored_time s)
+    go : (r : Resonant) → c.resonant ≡ r → (s : Option ResonanceState) → HeldMaybe s → replayedOf c r s ≡ Ok k → GoodBy c r s (stored_time s)
     go (No a0) kind None h p = refl
-    go (No a0) kind (Some z) h p = absurd (false≢true p)
-    go (Yes lambda-0 lambda-dot-0 theta_0 r) kind None h p = absurd (false≢true p)
+    go (No a0) kind (Some z) h p = cc
+    go (Yes lambda-0 lambda-dot-0 theta_0 r) kind None h p = cc
     go (Yes lambda-0 lambda-dot-0 theta_0 r) kind (Some z) h p =
-        replayed c lambda-0 lambda-dot-0 theta_0 r kind z (subst HeldMaybe (ap (fresh_by c.orbit_0.mean_motion) kind) hf) h p
+        replayed c lambda-0 lambda-dot-0 theta_0 r kind z k (subst HeldMaybe (ap (fresh_by c.orbit_0.mean_motion) kind) hf) h p
 
 after-restore : (w : Session) → Good w → (s : List ℕ) (x : ℕ) → Good (happen w (restores s x))
 after-restore w good s x = go (restored_from s x) refl
   where
-    go : (a : Restored) → restored_from s x ≡ a → Good (after_restore w (restored_by w.controller a))
-    go R.FileWrong e = good
-    go R.SatelliteMissing e = good
-    go R.BodyWrong e = good
-    go R.NumberNotFinite e = good
-    go (R.StateWrong k) e = good
-    go (R.Of c z k) e = let h = restored-held s x c z k e in after-replay c z h.fresh h.state h.same
+    go : (a : Result Record RestoreError) → restored_from s x ≡ a → Good (after_restore w (restored_by w.controller a))
+    go (Err e) p = good
+    go (Ok r) p = let h = restored-held s x r p in after-replay r.constants r.state r.steps h.fresh h.state h.replay
 
 pub happens : (w : Session) (e : Event) → Good w → Good (happen w e)
 happens w (asks q) good = after-ask w w.controller.constants.resonant refl good q

@@ -2,13 +2,12 @@
 -- Assumes nothing.
 use mathlib.Core.Path.{◌≡◌, refl, sym, ap, ◌∙◌, subst}
 use lib.Ieee.{Float}
+use Rattle.std.specs.Prelude.{Option, Some, None}
 use Rattle.orbit.specs.declared.propagator.Resonant.{Resonant}
 use Rattle.orbit.specs.declared.propagator.Resonant.TheVariants.{No, Yes}
 use Rattle.orbit.specs.declared.propagator.Constants.{Constants}
 use Rattle.elements.specs.declared.elements.Question.{Question}
 use Rattle.resonance.specs.declared.state.ResonanceState.{ResonanceState}
-use Rattle.resonance.specs.declared.state.MaybeState.{MaybeState}
-use Rattle.resonance.specs.declared.state.MaybeState.TheVariants.{None, Some}
 use Rattle.times.specs.Time.{number, back}
 use Rattle.resonance.specs.Ask.{ask_of}
 use Rattle.store.proofs.Kept.{save-restores}
@@ -23,14 +22,14 @@ pub resumes : Resumes
 resumes w v s x room n bytes hx held h = ap (restored_by v) (save-restores s x w.constants w.state room n bytes hx held h).same
 
 -- two states that demand 3 allows, under the same constants
-alike : (k : Constants) (s z : MaybeState) (T U : Float) → GoodBy k k.resonant s T → GoodBy k k.resonant z U → (q : Question)
+alike : (k : Constants) (s z : Option ResonanceState) (T U : Float) → GoodBy k k.resonant s T → GoodBy k k.resonant z U → (q : Question)
     → NotSeven (ask_of k s q).answer → NotSeven (ask_of k z q).answer → SamePointing (after k (ask_of k s q)) (after k (ask_of k z q))
 alike k s z T U g h q n m = go k.resonant refl s z g h n m
   where
-    go : (r : Resonant) → k.resonant ≡ r → (s z : MaybeState) → GoodBy k r s T → GoodBy k r z U
+    go : (r : Resonant) → k.resonant ≡ r → (s z : Option ResonanceState) → GoodBy k r s T → GoodBy k r z U
         → NotSeven (ask_of k s q).answer → NotSeven (ask_of k z q).answer → SamePointing (after k (ask_of k s q)) (after k (ask_of k z q))
     go (No a0) kind s z g h n m =
-        subst (λ (y : MaybeState). SamePointing (after k (ask_of k s q)) (after k (ask_of k y q))) (g ∙ sym h) (record { answer = refl; controller = λ o p. refl })
+        subst (λ (y : Option ResonanceState). SamePointing (after k (ask_of k s q)) (after k (ask_of k y q))) (g ∙ sym h) (record { answer = refl; controller = λ o p. refl })
     go (Yes lambda-0 lambda-dot-0 theta_0 r) kind None z g h n m = absurd (g.2 refl)
     go (Yes lambda-0 lambda-dot-0 theta_0 r) kind (Some a) None g h n m = absurd (h.2 refl)
     go (Yes lambda-0 lambda-dot-0 theta_0 r) kind (Some a) (Some b) g h n m =

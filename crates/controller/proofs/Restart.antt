@@ -10,6 +10,8 @@ use lib.Ieee.{Float, nan, inf, fin, up, down}
 use lib.Ieee.Bits.{is_true}
 use lib.Ieee.Fits.{and_i, and_l, and_r, eq→eqb, down_pos}
 use lib.Ieee.Scale.{finite}
+use Rattle.std.proofs.Common.{rules, tests}
+use Rattle.std.specs.Prelude.{Option, Some, None, Result, Ok, Err}
 use Rattle.floats.specs.Value.{at_most}
 use Rattle.orbit.specs.Propagator.{finite_constants, finite_orbit, finite_resonance, finite_resonant}
 use Rattle.orbit.specs.Model.{finite_geopotential}
@@ -19,23 +21,19 @@ use Rattle.orbit.specs.declared.propagator.Resonant.TheVariants.{Yes}
 use Rattle.orbit.specs.declared.propagator.Constants.{Constants}
 use Rattle.elements.specs.Elements.{finite_question}
 use Rattle.elements.specs.declared.elements.Question.{Question}
-use Rattle.elements.specs.declared.elements.Outcome.{Outcome}
+use Rattle.elements.specs.declared.elements.Elements.{Elements}
+use Rattle.elements.specs.declared.elements.ElementsError.{ElementsError}
 use Rattle.times.specs.declared.time.Fault.{Fault}
 use Rattle.times.specs.declared.time.Fault.TheVariants.{TimeNotFinite, TimeBeyondLimit, StateMisplaced, NotOnward, RatesRefused}
-use Rattle.times.specs.declared.time.Checked.{Checked}
-use Rattle.times.specs.declared.time.Checked.TheVariants.{Passed, Refused as refusedCheck}
 use Rattle.rates.specs.declared.Integrator.{Integrator}
 use Rattle.resonance.specs.declared.state.ResonanceState.{ResonanceState}
-use Rattle.resonance.specs.declared.state.MaybeState.{MaybeState}
-use Rattle.resonance.specs.declared.state.MaybeState.TheVariants.{None, Some}
-use Rattle.resonance.specs.declared.advance.Advanced.{Advanced}
-use Rattle.resonance.specs.declared.ask.Answer.{Answer}
-use Rattle.resonance.specs.declared.ask.Answer.TheVariants.{Refused, Reached}
-use Rattle.resonance.specs.declared.ask.StateAsked.{StateAsked}
+use Rattle.resonance.specs.declared.state.Refused.{Refused}
+use Rattle.resonance.specs.declared.advance.Walked.{Walked}
+use Rattle.resonance.specs.declared.ask.Asked.{Asked}
 use Rattle.times.specs.Time.{limit, number, back, placed, onward, refusal}
 use Rattle.resonance.specs.State.{fresh_of, finite_state, integrator}
 use Rattle.resonance.specs.Advance.{steps, taken}
-use Rattle.resonance.specs.Ask.{refusal_by, numbers_refusal, node_of, reached_by, advanced_by, resonant_ask, kind_ask, checked_ask, state_ask_of}
+use Rattle.resonance.specs.Ask.{Answer, refusal_by, numbers_refusal, node_of, reached_by, advanced_by, resonant_ask, kind_ask, checked_ask, state_ask_of}
 use Rattle.controller.specs.Restart.{Reaches, NotSeven, SameAnswer, Restart}
 use Rattle.times.proofs.Placed.{At, sign_of, at-num, at-number}
 use Rattle.times.proofs.Accepted.{accepted-at, accepted-le}
@@ -90,7 +88,7 @@ module _ (i : Integrator) (n l : Float) where
     stands : placed s.t ≡ true
     stands = placed_at w.0 w.1 s.t w.2 at_j
 
-    steps-there : (t : Float) → refusal s.t t ≡ Passed → steps i (back t) w.1 (fresh_of n l) ≡ Some s
+    steps-there : (t : Float) → refusal s.t t ≡ Ok tt → steps i (back t) w.1 (fresh_of n l) ≡ Some s
     unfolding steps
     steps-there t p = go w.1 w.3 at_j (subst (λ (k : ℕ). At (back t) k s.t) (at-number w.0 w.1 s.t at_j) (accepted-at s.t t p))
       where
@@ -104,7 +102,7 @@ module _ (i : Integrator) (n l : Float) where
         go (suc j) e u v = subst (λ (b : Bool). steps i b (suc j) (fresh_of n l) ≡ Some s) (way s.t w.0 (back t) j u v) e
 
     -- and reaches what the fresh state reaches
-    reach : (t : Float) → refusal s.t t ≡ Passed → steps i (back t) (number t - number s.t) s ≡ steps i (back t) (number t) (fresh_of n l)
+    reach : (t : Float) → refusal s.t t ≡ Ok tt → steps i (back t) (number t - number s.t) s ≡ steps i (back t) (number t) (fresh_of n l)
     reach t p =
         let j : number s.t ≡ w.1 = at-number w.0 w.1 s.t at_j in
         let le : w.1 ≤ number t = subst (λ (k : ℕ). k ≤ number t) j (accepted-le s.t t p) in
@@ -115,60 +113,53 @@ module _ (i : Integrator) (n l : Float) where
 
 -- ---- the answer by the last node alone
 
-pub answer_at : Constants → Integrator → Float → Question → MaybeState → Answer
-answer_at c i theta_0 q None = Refused RatesRefused
+pub answer_at : Constants → Integrator → Float → Question → Option ResonanceState → Answer
+answer_at c i theta_0 q None = Err RatesRefused
 answer_at c i theta_0 q (Some z) = node_of c i theta_0 z q
 
-pub record OnNode (a : StateAsked) (s : ResonanceState) (expected : Answer) (node : MaybeState) : Type 0 where
+pub record OnNode (a : Asked ResonanceState) (s : ResonanceState) (expected : Answer) (node : Option ResonanceState) : Type 0 where
   pub answer : a.answer ≡ expected
-  pub given : (f : Fault) → a.answer ≡ Refused f → a.state ≡ s
-  pub state : (o : Outcome) → a.answer ≡ Reached o → Some a.state ≡ node
+  pub given : (f : Fault) → a.answer ≡ Err f → a.state ≡ s
+  pub state : (o : Result Elements ElementsError) → a.answer ≡ Ok o → Some a.state ≡ node
 
-pub no-outcome : (f : Fault) (o : Outcome) {A : Type 0} → Refused f ≡ Reached o → A
-no-outcome f o p = absurd (subst (λ (x : Answer). is_refused x) p tt)
-  where
-    is_refused : Answer → Type 0
-    is_refused (Refused f) = Unit {0}
-    is_refused (Reached o) = ⊥
-
-on-node : (c : Constants) (i : Integrator) (theta_0 : Float) (s : ResonanceState) (q : Question) (k : ℕ) (node : MaybeState)
+on-node : (c : Constants) (i : Integrator) (theta_0 : Float) (s : ResonanceState) (q : Question) (k : ℕ) (node : Option ResonanceState)
     → OnNode (advanced_by c i theta_0 s q (taken s k node)) s (answer_at c i theta_0 q node) node
 unfolding answer_at
-on-node c i theta_0 s q k None = record { answer = refl; given = λ f p. refl; state = λ o p. no-outcome RatesRefused o p }
+on-node c i theta_0 s q k None = record { answer = refl; given = λ f p. refl; state = λ o p. cc }
 on-node c i theta_0 s q k (Some z) = go (node_of c i theta_0 z q)
   where
     go : (a : Answer) → OnNode (reached_by s z k a) s a (Some z)
-    go (Refused f) = record { answer = refl; given = λ g p. refl; state = λ o p. no-outcome f o p }
-    go (Reached r) = record { answer = refl; given = λ f p. no-outcome f r (sym p); state = λ o p. refl }
+    go (Err f) = record { answer = refl; given = λ g p. refl; state = λ o p. cc }
+    go (Ok r) = record { answer = refl; given = λ f p. cc; state = λ o p. refl }
 
 module _ (c : Constants) (i : Integrator) (n l theta_0 : Float) (q : Question) (s : ResonanceState) (w : Reaches i n l s) where
-  pub resonant : refusal s.t q.t ≡ Passed → OnNode (resonant_ask c i theta_0 s q) s (answer_at c i theta_0 q (steps i (back q.t) (number q.t) (fresh_of n l))) (steps i (back q.t) (number q.t) (fresh_of n l))
+  pub resonant : refusal s.t q.t ≡ Ok tt → OnNode (resonant_ask c i theta_0 s q) s (answer_at c i theta_0 q (steps i (back q.t) (number q.t) (fresh_of n l))) (steps i (back q.t) (number q.t) (fresh_of n l))
   unfolding resonant_ask
   resonant p =
       let t = q.t in
       let k = number t - number s.t in
       let node = steps i (back t) (number t) (fresh_of n l) in
-      subst (λ (a : Advanced). OnNode (advanced_by c i theta_0 s q a) s (answer_at c i theta_0 q node) node)
+      subst (λ (a : Result Walked Refused). OnNode (advanced_by c i theta_0 s q a) s (answer_at c i theta_0 q node) node)
       (sym (advance-go i s t p ∙ ap (taken s k) (reach i n l s w t p)))
       (on-node c i theta_0 s q k node)
 
   -- past 1 and 2, an ask that is not refused 7 passes
-  passes : finite q.t ≡ true → at_most limit q.t ≡ true → ((resonant_ask c i theta_0 s q).answer ≡ Refused NotOnward → ⊥) → refusal s.t q.t ≡ Passed
+  passes : finite q.t ≡ true → at_most limit q.t ≡ true → ((resonant_ask c i theta_0 s q).answer ≡ Err NotOnward → ⊥) → refusal s.t q.t ≡ Ok tt
   unfolding refusal resonant_ask
   passes f m seven = first ∙ go (onward s.t q.t) refl
     where
-      first : refusal s.t q.t ≡ cond (onward s.t q.t) Passed (refusedCheck NotOnward)
+      first : refusal s.t q.t ≡ cond (onward s.t q.t) (Ok tt) (Err NotOnward)
       first =
-          let last = cond (onward s.t q.t) Passed (refusedCheck NotOnward) in
-          ap (λ (x : Bool). cond x (cond (at_most limit q.t) (cond (placed s.t) last (refusedCheck StateMisplaced)) (refusedCheck TimeBeyondLimit)) (refusedCheck TimeNotFinite)) f
-          ∙ ap (λ (x : Bool). cond x (cond (placed s.t) last (refusedCheck StateMisplaced)) (refusedCheck TimeBeyondLimit)) m
-          ∙ ap (λ (x : Bool). cond x last (refusedCheck StateMisplaced)) (stands i n l s w)
+          let last = cond (onward s.t q.t) (Ok tt) (Err NotOnward) in
+          ap (λ (x : Bool). cond x (cond (at_most limit q.t) (cond (placed s.t) last (Err StateMisplaced)) (Err TimeBeyondLimit)) (Err TimeNotFinite)) f
+          ∙ ap (λ (x : Bool). cond x (cond (placed s.t) last (Err StateMisplaced)) (Err TimeBeyondLimit)) m
+          ∙ ap (λ (x : Bool). cond x last (Err StateMisplaced)) (stands i n l s w)
 
-      go : (x : Bool) → onward s.t q.t ≡ x → cond x Passed (refusedCheck NotOnward) ≡ Passed
+      go : (x : Bool) → onward s.t q.t ≡ x → cond x (Ok (tt {0})) (Err NotOnward) ≡ Ok tt
       go true e = refl
       go false e =
-          let r : refusal s.t q.t ≡ refusedCheck NotOnward = first ∙ ap (λ (x : Bool). cond x Passed (refusedCheck NotOnward)) e in
-          absurd (seven (ap (λ (a : Advanced). (advanced_by c i theta_0 s q a).answer) (sym (advance-refused i s q.t NotOnward r))))
+          let r : refusal s.t q.t ≡ Err NotOnward = first ∙ ap (λ (x : Bool). cond x (Ok tt) (Err NotOnward)) e in
+          absurd (seven (ap (λ (a : Result Walked Refused). (advanced_by c i theta_0 s q a).answer) (sym (advance-refused i s q.t NotOnward r))))
 
 -- ---- 1, 2 and 3 are the same for every state of the orbit: finite constants have finite states
 
@@ -188,20 +179,9 @@ module _ (c : Constants) (lambda-0 lambda-dot-0 theta_0 : Float) (r : Resonance)
   abbrev n : Float
   n = c.orbit_0.mean_motion
 
+  -- the second and the last of twelve
   ends : (a b d e f g h k m p o z : Bool) → T (a && b && d && e && f && g && h && k && m && p && o && z) → T b × T z
-  ends false b d e f g h k m p o z t = elim t [ ]
-  ends true false d e f g h k m p o z t = elim t [ ]
-  ends true true false e f g h k m p o z t = elim t [ ]
-  ends true true true false f g h k m p o z t = elim t [ ]
-  ends true true true true false g h k m p o z t = elim t [ ]
-  ends true true true true true false h k m p o z t = elim t [ ]
-  ends true true true true true true false k m p o z t = elim t [ ]
-  ends true true true true true true true false m p o z t = elim t [ ]
-  ends true true true true true true true true false p o z t = elim t [ ]
-  ends true true true true true true true true true false o z t = elim t [ ]
-  ends true true true true true true true true true true false z t = elim t [ ]
-  ends true true true true true true true true true true true false t = elim t [ ]
-  ends true true true true true true true true true true true true t = (tt, tt)
+  ends a b d e f g h k m p o z t = (search (rules, tests), search (rules, tests))
 
   fresh-finite : T (finite_constants c) → T (finite_state (fresh_of n lambda-0))
   fresh-finite t =
@@ -224,21 +204,14 @@ module _ (c : Constants) (lambda-0 lambda-dot-0 theta_0 : Float) (r : Resonance)
 
 -- ---- the theorem
 
-same_of : (x y x' y' : StateAsked) → x ≡ x' → y ≡ y' → SameAnswer x' y' → SameAnswer x y
-same_of x y x' y' p q h = subst (λ (a : StateAsked). SameAnswer a y) (sym p) (subst (λ (a : StateAsked). SameAnswer x' a) (sym q) h)
+same_of : (x y x' y' : Asked ResonanceState) → x ≡ x' → y ≡ y' → SameAnswer x' y' → SameAnswer x y
+same_of x y x' y' p q h = subst (λ (a : Asked ResonanceState). SameAnswer a y) (sym p) (subst (λ (a : Asked ResonanceState). SameAnswer x' a) (sym q) h)
 
 -- an ask that passes 1, 2 and 3 has a time that is finite and within the limit
-timely : (a b d : Bool) → refusal_by a b d ≡ Passed → (a ≡ true) × (b ≡ true)
-timely a b d p = go a b d (subst (λ (x : Checked). isPassed x) (sym p) tt)
-  where
-    isPassed : Checked → Type 0
-    isPassed Passed = Unit {0}
-    isPassed (refusedCheck f) = ⊥
-
-    go : (a b d : Bool) → isPassed (refusal_by a b d) → (a ≡ true) × (b ≡ true)
-    go true true d t = (refl, refl)
-    go true false d t = absurd t
-    go false b d t = absurd t
+timely : (a b d : Bool) → refusal_by a b d ≡ Ok tt → (a ≡ true) × (b ≡ true)
+timely true true d p = (refl, refl)
+timely true false d p = cc
+timely false b d p = cc
 
 module _ (c : Constants) (lambda-0 lambda-dot-0 theta_0 : Float) (r : Resonance) (kind : c.resonant ≡ Yes lambda-0 lambda-dot-0 theta_0 r) (q : Question) where
   abbrev I : Integrator
@@ -251,24 +224,24 @@ module _ (c : Constants) (lambda-0 lambda-dot-0 theta_0 : Float) (r : Resonance)
   unfolding state_ask_of
   checked s w = ap (checked_ask c s q) (numbers-same c lambda-0 lambda-dot-0 theta_0 r kind s q w)
 
-  onward-ask : (s : ResonanceState) → Reaches I N lambda-0 s → numbers_refusal c q true ≡ Passed → state_ask_of c s q ≡ resonant_ask c I theta_0 s q
+  onward-ask : (s : ResonanceState) → Reaches I N lambda-0 s → numbers_refusal c q true ≡ Ok tt → state_ask_of c s q ≡ resonant_ask c I theta_0 s q
   onward-ask s w e = checked s w ∙ ap (checked_ask c s q) e ∙ ap (kind_ask c s q) kind
 
-  on-last : (s : ResonanceState) → Reaches I N lambda-0 s → numbers_refusal c q true ≡ Passed → NotSeven (state_ask_of c s q).answer
+  on-last : (s : ResonanceState) → Reaches I N lambda-0 s → numbers_refusal c q true ≡ Ok tt → NotSeven (state_ask_of c s q).answer
       → OnNode (resonant_ask c I theta_0 s q) s (answer_at c I theta_0 q (steps I (back q.t) (number q.t) (fresh_of N lambda-0))) (steps I (back q.t) (number q.t) (fresh_of N lambda-0))
   unfolding numbers_refusal
   on-last s w e seven =
       let t = timely (finite q.t) (at_most limit q.t) (finite_question q && true && finite_constants c) e in
       resonant c I N lambda-0 theta_0 q s w
-      (passes c I N lambda-0 theta_0 q s w t.0 t.1 (λ p. seven (ap (λ (a : StateAsked). a.answer) (onward-ask s w e) ∙ p)))
+      (passes c I N lambda-0 theta_0 q s w t.0 t.1 (λ p. seven (ap (λ (a : Asked ResonanceState). a.answer) (onward-ask s w e) ∙ p)))
 
   alike : (s z : ResonanceState) → Reaches I N lambda-0 s → Reaches I N lambda-0 z → NotSeven (state_ask_of c s q).answer → NotSeven (state_ask_of c z q).answer
-      → (k : Checked) → numbers_refusal c q true ≡ k → SameAnswer (state_ask_of c s q) (state_ask_of c z q)
-  alike s z v w ns nz (refusedCheck f) e =
-      same_of (state_ask_of c s q) (state_ask_of c z q) (checked_ask c s q (refusedCheck f)) (checked_ask c z q (refusedCheck f))
+      → (k : Result (Unit {0}) Fault) → numbers_refusal c q true ≡ k → SameAnswer (state_ask_of c s q) (state_ask_of c z q)
+  alike s z v w ns nz (Err f) e =
+      same_of (state_ask_of c s q) (state_ask_of c z q) (checked_ask c s q (Err f)) (checked_ask c z q (Err f))
       (checked s v ∙ ap (checked_ask c s q) e) (checked z w ∙ ap (checked_ask c z q) e)
-      (record { answer = refl; state = λ o p. no-outcome f o p })
-  alike s z v w ns nz Passed e =
+      (record { answer = refl; state = λ o p. cc })
+  alike s z v w ns nz (Ok _) e =
       let a = on-last s v e ns in
       let b = on-last z w e nz in
       same_of (state_ask_of c s q) (state_ask_of c z q) (resonant_ask c I theta_0 s q) (resonant_ask c I theta_0 z q) (onward-ask s v e) (onward-ask z w e)

@@ -1,11 +1,10 @@
 -- How much stepping asks and restores can cost. Definitions and statements. Assumes nothing.
-use Rattle.std.specs.Prelude.{ℕ, ◌+◌, ◌≤◌, ◌^◌, ◌≡◌, List, [], ◌∷◌, Float}
+use Rattle.std.specs.Prelude.{ℕ, ◌+◌, ◌≤◌, ◌^◌, ◌≡◌, List, [], ◌∷◌, Ok, Float}
 use Rattle.orbit.specs.declared.propagator.Resonance.{Resonance}
 use Rattle.orbit.specs.declared.propagator.Resonant.TheVariants.{Yes}
 use Rattle.orbit.specs.declared.propagator.Constants.{Constants}
 use Rattle.times.specs.Time.{number}
 use Rattle.controller.specs.declared.Controller.{Controller}
-use Rattle.controller.specs.declared.Restoring.TheVariants.{Accepted}
 use Rattle.controller.specs.Running.{asked_of, restore_of}
 use Rattle.controller.specs.Demand.{Event, asks, saves, resets, restores, Session, happen, run, start, stored_time}
 
@@ -15,7 +14,7 @@ Between w [] = Unit {0}
 Between w (asks q ∷ es) = Between (happen w (asks q)) es
 Between w (saves s x room ∷ es) = Between w es
 Between w (resets ∷ es) = ⊥
-Between w (restores s x ∷ es) = ((restore_of w.controller s x).answer ≡ Accepted → ⊥) × Between (happen w (restores s x)) es
+Between w (restores s x ∷ es) = ((restore_of w.controller s x).answer ≡ Ok tt → ⊥) × Between (happen w (restores s x)) es
 
 -- the steps that the asks among them report, together
 abbrev pub asked : Session → List Event → ℕ
@@ -38,4 +37,4 @@ abbrev pub ReplaySteps : Type 0
 ReplaySteps =
     (v : Controller) (s : List ℕ) (x : ℕ)
     → let r = restore_of v s x in
-    r.answer ≡ Accepted → r.steps ≡ number (stored_time r.controller.state)
+    r.answer ≡ Ok tt → r.steps ≡ number (stored_time r.controller.state)

@@ -1,19 +1,16 @@
 -- The operator's question: does the dish point where it would have pointed without the restart? Statements only. Assumes nothing.
-use Rattle.std.specs.Prelude.{ℕ, ◌^◌, ◌<◌, ◌≡◌, List}
+use Rattle.std.specs.Prelude.{ℕ, ◌^◌, ◌<◌, ◌≡◌, List, Result, Ok}
 use Rattle.orbit.specs.declared.propagator.Constants.{Constants}
 use Rattle.elements.specs.declared.elements.Question.{Question}
-use Rattle.elements.specs.declared.elements.Outcome.{Outcome}
-use Rattle.resonance.specs.declared.ask.Answer.TheVariants.{Reached}
+use Rattle.elements.specs.declared.elements.Elements.{Elements}
+use Rattle.elements.specs.declared.elements.ElementsError.{ElementsError}
 use Rattle.contents.specs.Format.{Bytes}
 use Rattle.body.specs.Body.{body_numbers}
 use Rattle.body.specs.Examine.{steps_of, examined}
 use Rattle.body.specs.Back.{Held}
 use Rattle.store.specs.Save.{stored, stored_file}
-use Rattle.store.specs.declared.save.Stored.TheVariants.{Written}
 use Rattle.controller.specs.declared.Controller.{Controller}
-use Rattle.controller.specs.declared.Reply.{Reply}
-use Rattle.controller.specs.declared.Restoring.TheVariants.{Accepted}
-use Rattle.controller.specs.Running.{asked_of, kept, restore_of}
+use Rattle.controller.specs.Running.{Reply, asked_of, kept, restore_of}
 use Rattle.controller.specs.Restart.{NotSeven}
 use Rattle.controller.specs.Demand.{Event, run, start}
 
@@ -21,13 +18,13 @@ use Rattle.controller.specs.Demand.{Event, run, start}
 abbrev pub Resumes : Type 0
 Resumes =
     (w v : Controller) (s : List ℕ) (x room n : ℕ)
-    → Bytes s → x < 2 ^ 32 → Held (body_numbers w.constants w.state) → stored s x w.constants w.state room ≡ Written n
-    → restore_of v (stored_file s x w.constants w.state) x ≡ kept w Accepted (steps_of (examined w.constants w.state))
+    → Bytes s → x < 2 ^ 32 → Held (body_numbers w.constants w.state) → stored s x w.constants w.state room ≡ Ok n
+    → restore_of v (stored_file s x w.constants w.state) x ≡ kept w (Ok tt) (steps_of (examined w.constants w.state))
 
 -- the same answer; and where it is elements or one of 9 to 12, the same controller after it, bit for bit
 pub record SamePointing (x y : Reply) : Type 0 where
   pub answer : x.answer ≡ y.answer
-  pub controller : (o : Outcome) → x.answer ≡ Reached o → x.controller ≡ y.controller
+  pub controller : (o : Result Elements ElementsError) → x.answer ≡ Ok o → x.controller ≡ y.controller
 
 -- Whatever asks, saves, resets and restores two controllers have behind them: with the same constants in force, the same ask of each, not refused 7, gives the
 -- same answer and leaves the same controller

@@ -1,20 +1,18 @@
 -- The operator's question, for the asks of one orbit. Statements only. Assumes nothing.
-use Rattle.std.specs.Prelude.{ℕ, ◌≤◌, ◌^◌, ◌≡◌, Bool, Float}
+use Rattle.std.specs.Prelude.{ℕ, ◌≤◌, ◌^◌, ◌≡◌, Bool, Some, Result, Ok, Err, Float}
 use Rattle.orbit.specs.declared.propagator.Resonance.{Resonance}
 use Rattle.orbit.specs.declared.propagator.Resonant.TheVariants.{Yes}
 use Rattle.orbit.specs.declared.propagator.Constants.{Constants}
 use Rattle.elements.specs.declared.elements.Question.{Question}
-use Rattle.elements.specs.declared.elements.Outcome.{Outcome}
+use Rattle.elements.specs.declared.elements.Elements.{Elements}
+use Rattle.elements.specs.declared.elements.ElementsError.{ElementsError}
 use Rattle.times.specs.declared.time.Fault.TheVariants.{NotOnward}
 use Rattle.rates.specs.declared.Integrator.{Integrator}
 use Rattle.resonance.specs.declared.state.ResonanceState.{ResonanceState}
-use Rattle.resonance.specs.declared.state.MaybeState.TheVariants.{Some}
-use Rattle.resonance.specs.declared.ask.Answer.{Answer}
-use Rattle.resonance.specs.declared.ask.Answer.TheVariants.{Refused, Reached}
-use Rattle.resonance.specs.declared.ask.StateAsked.{StateAsked}
+use Rattle.resonance.specs.declared.ask.Asked.{Asked}
 use Rattle.resonance.specs.State.{fresh_of, integrator}
 use Rattle.resonance.specs.Advance.{steps}
-use Rattle.resonance.specs.Ask.{state_ask_of}
+use Rattle.resonance.specs.Ask.{Answer, state_ask_of}
 
 -- s is the fresh state of n and lambda_0 after j steps in one direction
 abbrev pub Reaches : Integrator → Float → Float → ResonanceState → Type 0
@@ -22,12 +20,12 @@ Reaches i n lambda-0 s = (b : Bool) × (j : ℕ) × (j ≤ 2 ^ 20) × (steps i b
 
 -- an ask that is not refused for direction or order
 abbrev pub NotSeven : Answer → Type 0
-NotSeven a = a ≡ Refused NotOnward → ⊥
+NotSeven a = a ≡ Err NotOnward → ⊥
 
 -- the same answer; and where it is elements or one of 9 to 12, the same state, bit for bit
-pub record SameAnswer (x y : StateAsked) : Type 0 where
+pub record SameAnswer (x y : Asked ResonanceState) : Type 0 where
   pub answer : x.answer ≡ y.answer
-  pub state : (o : Outcome) → x.answer ≡ Reached o → x.state ≡ y.state
+  pub state : (o : Result Elements ElementsError) → x.answer ≡ Ok o → x.state ≡ y.state
 
 -- Whatever steps two states of one orbit have behind them, the same ask of each, not refused 7, gives the same answer and the same next state
 abbrev pub Restart : Type 0

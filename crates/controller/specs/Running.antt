@@ -1,34 +1,39 @@
 -- The running controller as a value. Definitions only. Assumes nothing.
-use Rattle.std.specs.Prelude.{ℕ, List}
+use Rattle.std.specs.Prelude.{ℕ, List, Option, Result, Ok, Err}
 use Rattle.orbit.specs.declared.propagator.Constants.{Constants}
 use Rattle.elements.specs.declared.elements.Question.{Question}
+use Rattle.resonance.specs.declared.state.ResonanceState.{ResonanceState}
 use Rattle.resonance.specs.declared.ask.Asked.{Asked}
 use Rattle.resonance.specs.State.{fresh}
-use Rattle.resonance.specs.Ask.{ask_of}
-use Rattle.store.specs.declared.restore.Restored.{Restored}
-use Rattle.store.specs.declared.restore.Restored.TheVariants as R
-use Rattle.store.specs.Restore.{restored_from}
+use Rattle.resonance.specs.Ask.{Answer, ask_of}
+use Rattle.body.specs.declared.examine.Record.{Record}
+use Rattle.store.specs.declared.restore.RestoreError.{RestoreError}
+use Rattle.store.specs.Restore.{number as restored_number, steps_of, restored_from}
 use Rattle.controller.specs.declared.Controller.{Controller}
-use Rattle.controller.specs.declared.Reply.{Reply}
-use Rattle.controller.specs.declared.Resumed.{Resumed}
-use Rattle.controller.specs.declared.Restoring.{Restoring}
-use Rattle.controller.specs.declared.Restoring.TheVariants.{Accepted, FileWrong, SatelliteMissing, BodyWrong, NumberNotFinite, StateWrong}
+use Rattle.controller.specs.declared.After.{After}
+
+-- after an ask
+abbrev pub Reply : Type 0
+Reply = After Answer
+
+-- whether a restore was accepted, or which of 14 to 18 refused it; and after one
+abbrev pub Restoring : Type 0
+Restoring = Result (Unit {0}) RestoreError
+
+abbrev pub Resumed : Type 0
+Resumed = After Restoring
 
 -- document 01's number of a restore's answer: 0 where it was accepted
 abbrev pub number : Restoring → ℕ
-number Accepted = 0
-number FileWrong = 14
-number SatelliteMissing = 15
-number BodyWrong = 16
-number NumberNotFinite = 17
-number StateWrong = 18
+number (Ok _) = 0
+number (Err e) = restored_number (Err e)
 
 -- a controller of an orbit starts with its fresh state, and has it again after a reset
 abbrev pub started : Constants → Controller
 started c = record { constants = c; state = fresh c }
 
 -- an ask leaves the constants, and the state that it hands back
-abbrev pub after : Constants → Asked → Reply
+abbrev pub after : Constants → Asked (Option ResonanceState) → Reply
 after c a = record { answer = a.answer; controller = record { constants = c; state = a.state }; steps = a.steps }
 
 abbrev pub asked_of : Controller → Question → Reply
@@ -38,13 +43,9 @@ asked_of w q = after w.constants (ask_of w.constants w.state q)
 abbrev pub kept : Controller → Restoring → ℕ → Resumed
 kept w a k = record { answer = a; controller = w; steps = k }
 
-abbrev pub restored_by : Controller → Restored → Resumed
-restored_by w R.FileWrong = kept w FileWrong 0
-restored_by w R.SatelliteMissing = kept w SatelliteMissing 0
-restored_by w R.BodyWrong = kept w BodyWrong 0
-restored_by w R.NumberNotFinite = kept w NumberNotFinite 0
-restored_by w (R.StateWrong k) = kept w StateWrong k
-restored_by w (R.Of c z k) = kept (record { constants = c; state = z }) Accepted k
+abbrev pub restored_by : Controller → Result Record RestoreError → Resumed
+restored_by w (Err e) = kept w (Err e) (steps_of (Err e))
+restored_by w (Ok r) = kept (record { constants = r.constants; state = r.state }) (Ok tt) r.steps
 
 abbrev pub restore_of : Controller → List ℕ → ℕ → Resumed
 restore_of w s x = restored_by w (restored_from s x)

@@ -1,65 +1,58 @@
 // The running controller: constants and state in force as one value. Only its methods change it.
 #![tactic(auto)]
 
-ghost use Rattle.std.specs.Prelude.{◌≡◌, length};
+ghost use Rattle.std.specs.Prelude.{◌≡◌, length, Err};
 ghost use Rattle.store.specs.Save.{stored, stored_file, output_after};
-ghost use Rattle.controller.specs.Running.{number as restoring_number, started, asked_of, restored_by, restore_of};
+ghost use Rattle.store.specs.Restore.{steps_of};
+ghost use Rattle.controller.specs.Running.{number as number_of, started, asked_of, kept, restored_by, restore_of};
 
+use body::examine::Record;
 use elements::elements::Question;
 use orbit::propagator::Constants;
-use resonance::ask::Answer;
-use resonance::state::{MaybeState, initial_state};
-use store::restore::{Restored, restore};
-use store::save::{Stored, save};
+use resonance::ask::{Answer, Asked, ask};
+use resonance::state::{ResonanceState, initial_state};
+use store::restore::{RestoreError, restore};
+use store::save::{StoreError, save};
 
 // Constants and state in force. A non-resonant orbit has no state.
 #[derive(Clone, Copy)]
 pub struct Controller {
     constants: Constants,
-    state: MaybeState,
+    state: Option<ResonanceState>,
 }
 
-// The answer of an ask, the controller after it, and the steps made.
+// An answer, the controller after it, and the steps made.
 #[derive(Clone, Copy)]
-pub struct Reply {
-    pub answer: Answer,
+pub struct After<A> {
+    pub answer: A,
     pub controller: Controller,
     pub steps: u32,
 }
 
-// Whether a restore was accepted.
-#[derive(Clone, Copy)]
-pub enum Restoring {
-    Accepted,
-    FileWrong, // refusal 14
-    SatelliteMissing, // refusal 15
-    BodyWrong, // refusal 16
-    NumberNotFinite, // refusal 17
-    StateWrong, // refusal 18
-}
+// After an ask.
+pub type Reply = After<Answer>;
 
-impl Restoring {
-    // The refusal's number, and 0 where the restore was accepted.
-    pub fn number(self) -> u32
-        ensures { result ≡ restoring_number self }
-    {
-        match self {
-            Restoring::Accepted => 0,
-            Restoring::FileWrong => 14,
-            Restoring::SatelliteMissing => 15,
-            Restoring::BodyWrong => 16,
-            Restoring::NumberNotFinite => 17,
-            Restoring::StateWrong => 18,
-        }
+// After a restore: its steps are those of the replay.
+pub type Resumed = After<Result<(), RestoreError>>;
+
+// The number of a restore's refusal, and 0 where the restore was accepted.
+pub fn number(answer: Result<(), RestoreError>) -> u32
+    ensures { result ≡ number_of answer }
+{
+    match answer {
+        Ok(()) => 0,
+        Err(error) => error.number(),
     }
 }
 
-// The answer of a restore, the controller after it, and the steps of the replay.
-#[derive(Clone, Copy)]
-pub struct Resumed {
-    pub answer: Restoring,
-    pub controller: Controller,
-    pub steps: u32,
+// The steps of a replay that 18 refuses, and none of any other refusal.
+fn steps_before(error: RestoreError) -> u32
+    ensures { result ≡ steps_of (Err error) }
+{
+    match error {
+        RestoreError::StateWrong { steps } => steps,
+        _ => 0,
+    }
 }
 
 impl Controller {
@@ -81,7 +74,7 @@ impl Controller {
     }
 
     // The state in force, or none.
-    pub fn state(self) -> MaybeState
+    pub fn state(self) -> Option<ResonanceState>
         ensures { result ≡ self.state }
     {
         self.state
@@ -91,38 +84,32 @@ impl Controller {
     pub fn ask(self, q: Question) -> Reply
         ensures { result ≡ asked_of self q }
     {
-        let constants = self.constants;
-        let state = self.state;
-        let a = state.ask(constants, q);
-        let answer = a.answer;
-        let moved = a.state;
-        let controller = Controller {
-            constants,
-            state: moved,
-        };
-        Reply {
+        let Asked {
             answer,
-            controller,
-            steps: a.steps,
+            state,
+            steps,
+        } = ask(self.state, self.constants, q);
+        After {
+            answer,
+            controller: Controller { state, ..self },
+            steps,
         }
     }
 
     // Writes the file with the record of a satellite added or replaced into `out`; the controller stays
     // as it is.
-    pub fn save(self, file: &[u8], out: &mut [u8], satellite: u32) -> Stored
+    pub fn save(self, file: &[u8], out: &mut [u8], satellite: u32) -> Result<usize, StoreError>
         ensures { (result ≡ stored file.now satellite self.constants self.state (length out.old))
             × (out.new ≡ output_after result (stored_file file.now satellite self.constants self.state) out.old) }
     {
-        let constants = self.constants;
-        let state = self.state;
-        save(file, out, satellite, constants, state)
+        save(file, out, satellite, self.constants, self.state)
     }
 
-    // A refused restore: the controller as it was.
-    fn kept(self, answer: Restoring, steps: u32) -> Resumed
-        ensures { result ≡ record { answer = answer; controller = self; steps = steps } }
+    // A restore with this controller in force after it.
+    fn kept(self, answer: Result<(), RestoreError>, steps: u32) -> Resumed
+        ensures { result ≡ kept self answer steps }
     {
-        Resumed {
+        After {
             answer,
             controller: self,
             steps,
@@ -130,23 +117,18 @@ impl Controller {
     }
 
     // The controller of what was restored, or this one.
-    fn resumed(self, r: Restored) -> Resumed
-        ensures { result ≡ restored_by self r }
+    fn resumed(self, restored: Result<Record, RestoreError>) -> Resumed
+        ensures { result ≡ restored_by self restored }
     {
-        match r {
-            Restored::FileWrong => self.kept(Restoring::FileWrong, 0),
-            Restored::SatelliteMissing => self.kept(Restoring::SatelliteMissing, 0),
-            Restored::BodyWrong => self.kept(Restoring::BodyWrong, 0),
-            Restored::NumberNotFinite => self.kept(Restoring::NumberNotFinite, 0),
-            Restored::StateWrong { steps } => self.kept(Restoring::StateWrong, steps),
-            Restored::Of {
-                constants,
-                state,
-                steps,
-            } => {
-                let controller = Controller { constants, state };
-                controller.kept(Restoring::Accepted, steps)
+        match restored {
+            Ok(r) => {
+                let controller = Controller {
+                    constants: r.constants,
+                    state: r.state,
+                };
+                controller.kept(Ok(()), r.steps)
             }
+            Err(error) => self.kept(Err(error), steps_before(error)),
         }
     }
 
@@ -161,7 +143,6 @@ impl Controller {
     pub fn reset(self) -> Controller
         ensures { result ≡ started self.constants }
     {
-        let constants = self.constants;
-        Controller::start(constants)
+        Controller::start(self.constants)
     }
 }

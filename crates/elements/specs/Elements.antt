@@ -1,16 +1,15 @@
 -- The elements of an orbit at a time from p28 and p29, with refusals 9 to 12, as the Rust groups them. Definitions only. Assumes nothing.
-use Rattle.std.specs.Prelude.{ℕ, List, [], ◌∷◌, Bool, true, cond, ◌&&◌, Float}
+use Rattle.std.specs.Prelude.{ℕ, Bool, cond, ◌&&◌, Option, Some, None, Result, Err, ok_or, option_map, option_and_then, Float}
+use Rattle.std.specs.Bool.{then_some}
 use Rattle.std.specs.Float.Ieee.{lt, le}
 use Rattle.std.specs.Float.Ieee.Scale.{finite}
 use Rattle.floats.specs.Rounded.{◌⊕◌, ◌⊖◌, ◌⊗◌, ◌⊘◌, ⊝◌, ◌rem◌, dec, magnitude}
 use Rattle.floats.specs.Power.{sq}
 use Rattle.floats.specs.Remainder.{rem_euclid}
 use Rattle.floats.specs.Atan.{arc_of}
-use Rattle.floats.specs.Trig.{wave_of}
+use Rattle.floats.specs.Trig.{sin_cos_of}
 use Rattle.floats.specs.Root.{three_halves}
-use Rattle.floats.specs.declared.trig.Wave.{Wave}
-use Rattle.floats.specs.declared.root.Root.{Root}
-use Rattle.floats.specs.declared.root.Root.TheVariants.{Of as root, Outside}
+use Rattle.floats.specs.declared.trig.SinCos.{SinCos}
 use Rattle.orbit.specs.Model.{pi, tau}
 use Rattle.orbit.specs.Propagator.{finite_orbit}
 use Rattle.orbit.specs.declared.propagator.Constants.{Constants}
@@ -19,8 +18,8 @@ use Rattle.elements.specs.declared.elements.Question.{Question}
 use Rattle.elements.specs.declared.elements.Elements.{Elements}
 use Rattle.elements.specs.declared.elements.Plane.{Plane}
 use Rattle.elements.specs.declared.elements.Shape.{Shape}
-use Rattle.elements.specs.declared.elements.Outcome.{Outcome}
-use Rattle.elements.specs.declared.elements.Outcome.TheVariants.{Of, AngleRefused, OutOfRangeEccentricity, OutOfRangePerturbedEccentricity, ElementsNotFinite}
+use Rattle.elements.specs.declared.elements.ElementsError.{ElementsError}
+use Rattle.elements.specs.declared.elements.ElementsError.TheVariants.{AngleRefused, OutOfRangeEccentricity, OutOfRangePerturbedEccentricity, ElementsNotFinite}
 
 -- ---- the numbers given with a time
 
@@ -53,16 +52,15 @@ p5 q = q.solar.p5 ⊕ q.lunar.p5
 unfoldable pub inclination_at : Constants → Question → Float
 inclination_at c q = c.orbit_0.inclination ⊕ c.inclination_dot ⊗ q.t ⊕ tilt q
 
-abbrev pub plane_at : Float → Float → Bool → Plane
-plane_at right-ascension argument-of-perigee ok =
-    record { right_ascension = right-ascension; argument_of_perigee = argument-of-perigee; ok = ok }
+abbrev pub plane_at : Float → Float → Plane
+plane_at right-ascension argument-of-perigee = record { right_ascension = right-ascension; argument_of_perigee = argument-of-perigee }
 
 -- from I = 0.2 on: Ω = p₂₂ + (pₛ₅ + pₗ₅) / sin I, ω = p₂₃ + (pₛ₄ + pₗ₄) - cos I ((pₛ₅ + pₗ₅) / sin I)
-unfoldable pub high : Question → Wave → Plane
-high q w = plane_at (q.p22 ⊕ p5 q ⊘ w.sin) (q.p23 ⊕ p4 q ⊖ w.cos ⊗ (p5 q ⊘ w.sin)) true
+unfoldable pub high : Question → SinCos → Plane
+high q w = plane_at (q.p22 ⊕ p5 q ⊘ w.sin) (q.p23 ⊕ p4 q ⊖ w.cos ⊗ (p5 q ⊘ w.sin))
 
 -- p₃₀, of the sines and cosines of I and of p₂₂
-unfoldable pub p30_of : Question → Wave → Wave → Float
+unfoldable pub p30_of : Question → SinCos → SinCos → Float
 p30_of q w node =
     arc_of
     (w.sin ⊗ node.sin ⊕ (p5 q ⊗ node.cos ⊕ tilt q ⊗ w.cos ⊗ node.sin))
@@ -77,20 +75,17 @@ unfoldable pub low_node : Bool → Float → Float
 low_node afspc p22 = cond afspc (rem_euclid p22 tau) (p22 rem tau)
 
 -- below I = 0.2, by p₃₀; p₂₂'s sine and cosine are taken
-abbrev pub low_by : Question → Wave → Wave → Float → Float → Plane
+abbrev pub low_by : Question → SinCos → SinCos → Float → Float → Plane
 low_by q w node right-ascension last =
     plane_at right-ascension
     (q.p23 ⊕ p4 q ⊕ w.cos ⊗ (q.p22 rem tau ⊖ right-ascension) ⊖ tilt q ⊗ last ⊗ w.sin)
-    node.ok
 
-unfoldable pub low : Bool → Question → Wave → Plane
+unfoldable pub low : Bool → Question → SinCos → Option Plane
 low afspc q w =
-    let node = wave_of q.p22 in
-    low_by q w node (near_turn (p30_of q w node) (q.p22 rem tau)) (low_node afspc q.p22)
+    option_map (λ node. low_by q w node (near_turn (p30_of q w node) (q.p22 rem tau)) (low_node afspc q.p22)) (sin_cos_of q.p22)
 
--- a NaN I falls into the low branch
-unfoldable pub plane_of : Bool → Question → Float → Wave → Plane
-plane_of afspc q inclination w = cond (le (dec 2 1) inclination) (high q w) (low afspc q w)
+unfoldable pub plane_of : Bool → Question → Float → SinCos → Option Plane
+plane_of afspc q inclination w = cond (le (dec 2 1) inclination) (Some (high q w)) (low afspc q w)
 
 -- ---- eccentricity
 
@@ -119,8 +114,8 @@ unfoldable pub a_of : Constants → Float → Float → Float
 a_of c t p28 = p28 ⊗ sq (dec 1 0 ⊖ c.c1 ⊗ t)
 
 -- a^1.5, of a base that is positive and finite
-unfoldable pub power_of : Float → Root
-power_of a = cond (lt (dec 0 0) a) (three_halves a) Outside
+unfoldable pub power_of : Float → Option Float
+power_of a = cond (lt (dec 0 0) a) (three_halves a) None
 
 -- 1 + cos I, or 1.5e-12 where |1 + cos I| is not above that
 unfoldable pub divisor : Float → Float
@@ -157,19 +152,15 @@ abbrev pub finite_elements : Elements → Bool
 finite_elements e =
     finite_orbit e.orbit && finite e.a && finite e.p32 && finite e.p33 && finite e.p34 && finite e.p35 && finite e.p36
 
--- 12: base of a power not positive and finite, or a number of the answer not finite
-abbrev pub with_power : Constants → Question → Shape → Float → Float → Root → Outcome
-with_power c q s p29 a Outside = ElementsNotFinite
-with_power c q s p29 a (root power) = cond (finite_elements (elements_at c q s p29 a power)) (Of (elements_at c q s p29 a power)) ElementsNotFinite
+-- none, by which 12 is given, where the base of a power is not positive and finite, or a number of the answer not finite
+abbrev pub if_finite : Elements → Option Elements
+if_finite e = then_some (finite_elements e) e
 
-abbrev pub with_p28 : Constants → Question → Shape → Float → Root → Outcome
-with_p28 c q s p29 Outside = ElementsNotFinite
-with_p28 c q s p29 (root p28) = with_power c q s p29 (a_of c q.t p28) (power_of (a_of c q.t p28))
+unfoldable pub completed_of : Constants → Question → Shape → Float → Option Float → Option Elements
+completed_of c q s p29 p28 =
+    option_and_then (λ p28. let a = a_of c q.t p28 in option_and_then (λ power. if_finite (elements_at c q s p29 a power)) (power_of a)) p28
 
-unfoldable pub completed_of : Constants → Question → Shape → Float → Root → Outcome
-completed_of c q s p29 p28 = with_p28 c q s p29 p28
-
-abbrev pub shape_at : Float → Wave → Plane → Float → Shape
+abbrev pub shape_at : Float → SinCos → Plane → Float → Shape
 shape_at inclination w plane e =
     record {
       inclination = inclination;
@@ -180,36 +171,33 @@ shape_at inclination w plane e =
       cos = w.cos;
     }
 
--- 9: the inclination, or p22 where its sine or cosine is taken, is refused. 10: p31 out of range, with p31 and t. 11: the perturbed eccentricity outside 0 to 1,
--- with it and t. 12 comes last
-abbrev pub elements_by : Constants → Root → Float → Question → Float → Wave → Plane → Float → Float → Outcome
+-- 10: p31 out of range, with p31 and t. 11: the perturbed eccentricity outside 0 to 1, with it and t. 12 comes last
+abbrev pub elements_by : Constants → Option Float → Float → Question → Float → SinCos → Plane → Float → Float → Result Elements ElementsError
 elements_by c p28 p29 q inclination w plane p31 e =
-    cond (w.ok && plane.ok)
-    (cond (in_range p31)
+    cond (in_range p31)
     (cond (in_unit e)
-    (completed_of c q (shape_at inclination w plane e) p29 p28)
-    (OutOfRangePerturbedEccentricity e q.t))
-    (OutOfRangeEccentricity p31 q.t))
-    AngleRefused
+    (ok_or (completed_of c q (shape_at inclination w plane e) p29 p28) ElementsNotFinite)
+    (Err (OutOfRangePerturbedEccentricity e q.t)))
+    (Err (OutOfRangeEccentricity p31 q.t))
 
-unfoldable pub elements_of : Constants → Root → Float → Question → Outcome
-elements_of c p28 p29 q =
-    let inclination = inclination_at c q in
-    let w = wave_of inclination in
+-- 9: the inclination, or p22 where its sine or cosine is taken, is refused
+abbrev pub with_plane : Constants → Option Float → Float → Question → Float → SinCos → Option Plane → Result Elements ElementsError
+with_plane c p28 p29 q inclination w None = Err AngleRefused
+with_plane c p28 p29 q inclination w (Some plane) =
     let p31 = p31_of c q.t in
-    elements_by c p28 p29 q inclination w (plane_of c.afspc_compatibility_mode q inclination w) p31 (perturbed p31 q)
+    elements_by c p28 p29 q inclination w plane p31 (perturbed p31 q)
 
--- document 01's number of an outcome, 0 where there are elements; and the two numbers that 10 and 11 carry
-abbrev pub number : Outcome → ℕ
-number (Of e) = 0
+abbrev pub with_inclination : Constants → Option Float → Float → Question → Float → Option SinCos → Result Elements ElementsError
+with_inclination c p28 p29 q inclination None = Err AngleRefused
+with_inclination c p28 p29 q inclination (Some w) =
+    with_plane c p28 p29 q inclination w (plane_of c.afspc_compatibility_mode q inclination w)
+
+unfoldable pub elements_of : Constants → Option Float → Float → Question → Result Elements ElementsError
+elements_of c p28 p29 q = with_inclination c p28 p29 q (inclination_at c q) (sin_cos_of (inclination_at c q))
+
+-- document 01's number of a refusal
+abbrev pub number : ElementsError → ℕ
 number AngleRefused = 9
 number (OutOfRangeEccentricity e t) = 10
 number (OutOfRangePerturbedEccentricity e t) = 11
 number ElementsNotFinite = 12
-
-abbrev pub carried : Outcome → List Float
-carried (Of e) = []
-carried AngleRefused = []
-carried (OutOfRangeEccentricity e t) = e ∷ t ∷ []
-carried (OutOfRangePerturbedEccentricity e t) = e ∷ t ∷ []
-carried ElementsNotFinite = []

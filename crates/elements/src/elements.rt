@@ -1,12 +1,12 @@
 // The elements from p28 and p29: everything of an ask past the resonance integrator.
 ghost use Rattle.std.specs.Prelude.{◌≡◌};
-ghost use Rattle.elements.specs.Elements.{inclination_at, high as high_of, p30_of, near_turn, low_node, low as low_of, plane_of, p31_of, in_range, perturbed, in_unit, a_of, power_of, divisor as divisor_of, elements_at, finite_periodic, finite_question, finite_elements, completed_of, elements_of};
+ghost use Rattle.elements.specs.Elements.{tilt as tilt_of, p4 as p4_of, p5 as p5_of, inclination_at, high as high_of, p30_of, near_turn, low_node, low as low_of, plane_of, p31_of, in_range, perturbed, in_unit, a_of, power_of, divisor as divisor_of, elements_at, finite_periodic, finite_question, finite_elements, completed_of, number as number_of, elements_of};
 
 use floats::atan::atan2;
 use floats::finite::{is_finite, magnitude};
 use floats::remainder::{rem, rem_euclid};
-use floats::root::{Root, three_halves};
-use floats::trig::{Wave, sines};
+use floats::root::three_halves;
+use floats::trig::{SinCos, sin_cos};
 use orbit::model::{PI, TAU};
 use orbit::propagator::{Constants, Orbit};
 
@@ -43,22 +43,20 @@ pub struct Elements {
     pub p36: f64,
 }
 
-// The elements, or why there are none.
-#[derive(Clone, Copy)]
-pub enum Outcome {
-    Of(Elements),
+// Why there are no elements.
+#[derive(Clone, Copy, Debug, PartialEq)]
+pub enum ElementsError {
     AngleRefused, // refusal 9
     OutOfRangeEccentricity { eccentricity: f64, t: f64 }, // refusal 10
     OutOfRangePerturbedEccentricity { eccentricity: f64, t: f64 }, // refusal 11
     ElementsNotFinite, // refusal 12
 }
 
-// Node and perigee at the time asked, and whether every angle on the way is answered.
+// Node and perigee at the time asked.
 #[derive(Clone, Copy)]
 struct Plane {
     right_ascension: f64,
     argument_of_perigee: f64,
-    ok: bool,
 }
 
 // What is known of the orbit before its size is: sin I and cos I too.
@@ -73,34 +71,34 @@ struct Shape {
 }
 
 // I = I₀ + İ t + (δIₛ + δIₗ)
+#[tactic(auto, unfolding(crate::specs::Elements::inclination_at))]
 fn inclination_at(c: Constants, q: Question) -> f64
     ensures { result ≡ inclination_at c q }
 {
-    c.orbit_0.inclination
-        + c.inclination_dot * q.t
-        + (q.solar.delta_inclination + q.lunar.delta_inclination)
+    c.orbit_0.inclination + c.inclination_dot * q.t + q.tilt()
 }
 
 // Ω = p₂₂ + (pₛ₅ + pₗ₅) / sin I and ω = p₂₃ + (pₛ₄ + pₗ₄) - cos I (pₛ₅ + pₗ₅) / sin I
-fn high(q: Question, w: Wave) -> Plane
+#[tactic(auto, unfolding(crate::specs::Elements::high))]
+fn high(q: Question, w: SinCos) -> Plane
     ensures { result ≡ high_of q w }
 {
-    let p5 = (q.solar.p5 + q.lunar.p5) / w.sin;
+    let p5 = q.p5() / w.sin;
     Plane {
         right_ascension: q.p22 + p5,
-        argument_of_perigee: q.p23 + (q.solar.p4 + q.lunar.p4) - w.cos * p5,
-        ok: true,
+        argument_of_perigee: q.p23 + q.p4() - w.cos * p5,
     }
 }
 
 //             sin I sin p₂₂ + (pₛ₅ + pₗ₅) cos p₂₂ + (δIₛ + δIₗ) cos I sin p₂₂
 // p₃₀ = tan⁻¹ -------------------------------------------------------------
 //             sin I cos p₂₂ - (pₛ₅ + pₗ₅) sin p₂₂ + (δIₛ + δIₗ) cos I cos p₂₂
-fn p30(q: Question, w: Wave, node: Wave) -> f64
+#[tactic(auto, unfolding(crate::specs::Elements::p30_of))]
+fn p30(q: Question, w: SinCos, node: SinCos) -> f64
     ensures { result ≡ p30_of q w node }
 {
-    let p5 = q.solar.p5 + q.lunar.p5;
-    let tilt = (q.solar.delta_inclination + q.lunar.delta_inclination) * w.cos;
+    let p5 = q.p5();
+    let tilt = q.tilt() * w.cos;
     atan2(
         w.sin * node.sin + (p5 * node.cos + tilt * node.sin),
         w.sin * node.cos + (-p5 * node.sin + tilt * node.cos),
@@ -133,32 +131,37 @@ fn low_node(afspc_compatibility_mode: bool, p22: f64) -> f64
 }
 
 // ω = p₂₃ + (pₛ₄ + pₗ₄) + cos I ((p₂₂ rem 2π) - Ω) - (δIₛ + δIₗ) (p₂₂ mod or rem 2π) sin I
-fn low(afspc_compatibility_mode: bool, q: Question, w: Wave) -> Plane
+fn low(afspc_compatibility_mode: bool, q: Question, w: SinCos) -> Option<Plane>
     ensures { result ≡ low_of afspc_compatibility_mode q w }
 {
-    let node = sines(q.p22);
+    let node = sin_cos(q.p22)?;
     let turn = rem(q.p22, TAU);
     let right_ascension = near_turn(p30(q, w, node), turn);
     let last = low_node(afspc_compatibility_mode, q.p22);
-    Plane {
+    Some(Plane {
         right_ascension,
-        argument_of_perigee: q.p23 + (q.solar.p4 + q.lunar.p4) + w.cos * (turn - right_ascension)
-            - (q.solar.delta_inclination + q.lunar.delta_inclination) * last * w.sin,
-        ok: node.ok,
-    }
+        argument_of_perigee: q.p23 + q.p4() + w.cos * (turn - right_ascension)
+            - q.tilt() * last * w.sin,
+    })
 }
 
 // By the inclination: p₂₂'s sine and cosine are taken below 0.2 only.
-fn plane_at(afspc_compatibility_mode: bool, q: Question, inclination: f64, w: Wave) -> Plane
+fn plane_at(
+    afspc_compatibility_mode: bool,
+    q: Question,
+    inclination: f64,
+    w: SinCos,
+) -> Option<Plane>
     ensures { result ≡ plane_of afspc_compatibility_mode q inclination w }
 {
     if inclination >= 0.2 {
-        return high(q, w);
+        return Some(high(q, w));
     }
     low(afspc_compatibility_mode, q, w)
 }
 
 // p₃₁ = e₀ + ė t - C₄ t
+#[tactic(auto, unfolding(crate::specs::Elements::p31_of))]
 fn p31(c: Constants, t: f64) -> f64
     ensures { result ≡ p31_of c t }
 {
@@ -169,10 +172,11 @@ fn p31(c: Constants, t: f64) -> f64
 fn is_in_range(p31: f64) -> bool
     ensures { result ≡ in_range p31 }
 {
-    (p31 >= -0.001) & (p31 < 1.0)
+    (-0.001..1.0).contains(&p31)
 }
 
-// e = p₃₁, or 10⁻⁶ where p₃₁ < 10⁻⁶, plus (δeₛ + δeₗ)
+// e = p₃₁, or 10⁻⁶ where p₃₁ < 10⁻⁶, plus (δeₛ + δeₗ). (`f64::max` is no such thing: `perturbed` keeps
+// a NaN.)
 fn perturbed_eccentricity(p31: f64, q: Question) -> f64
     ensures { result ≡ perturbed p31 q }
 {
@@ -187,17 +191,17 @@ fn perturbed_eccentricity(p31: f64, q: Question) -> f64
 fn is_in_unit(eccentricity: f64) -> bool
     ensures { result ≡ in_unit eccentricity }
 {
-    (eccentricity >= 0.0) & (eccentricity <= 1.0)
+    (0.0..=1.0).contains(&eccentricity)
 }
 
 // a³ᐟ² of a base that is positive and finite.
-fn power(a: f64) -> Root
+fn power(a: f64) -> Option<f64>
     ensures { result ≡ power_of a }
 {
     if a > 0.0 {
         return three_halves(a);
     }
-    Root::Outside
+    None
 }
 
 // a = p₂₈ (1 - C₁ t)²
@@ -268,6 +272,27 @@ impl Periodic {
 }
 
 impl Question {
+    // δIₛ + δIₗ
+    fn tilt(self) -> f64
+        ensures { result ≡ tilt_of self }
+    {
+        self.solar.delta_inclination + self.lunar.delta_inclination
+    }
+
+    // pₛ₄ + pₗ₄
+    fn p4(self) -> f64
+        ensures { result ≡ p4_of self }
+    {
+        self.solar.p4 + self.lunar.p4
+    }
+
+    // pₛ₅ + pₗ₅
+    fn p5(self) -> f64
+        ensures { result ≡ p5_of self }
+    {
+        self.solar.p5 + self.lunar.p5
+    }
+
     // Whether every number but the time is finite.
     pub fn is_finite(self) -> bool
         ensures { result ≡ finite_question self }
@@ -294,69 +319,81 @@ impl Elements {
     }
 }
 
-// The answer of a shape: refusal 12 where a base is refused or a number is not finite.
-fn completed(c: Constants, q: Question, s: Shape, p29: f64, p28: Root) -> Outcome
-    ensures { result ≡ completed_of c q s p29 p28 }
-{
-    match p28 {
-        Root::Outside => Outcome::ElementsNotFinite,
-        Root::Of(p28) => {
-            let a = semi_major_axis(c, q.t, p28);
-            match power(a) {
-                Root::Outside => Outcome::ElementsNotFinite,
-                Root::Of(power) => {
-                    let e = numbers(c, q, s, p29, a, power);
-                    if e.is_finite() {
-                        return Outcome::Of(e);
-                    }
-                    Outcome::ElementsNotFinite
-                }
-            }
+impl ElementsError {
+    // The refusal's number.
+    pub fn number(self) -> u32
+        ensures { result ≡ number_of self }
+    {
+        match self {
+            ElementsError::AngleRefused => 9,
+            ElementsError::OutOfRangeEccentricity { .. } => 10,
+            ElementsError::OutOfRangePerturbedEccentricity { .. } => 11,
+            ElementsError::ElementsNotFinite => 12,
         }
     }
+}
+
+// The elements of a shape; none where a base is refused or a number is not finite.
+#[tactic(auto, unfolding(crate::specs::Elements::completed_of))]
+fn completed(c: Constants, q: Question, s: Shape, p29: f64, p28: Option<f64>) -> Option<Elements>
+    ensures { result ≡ completed_of c q s p29 p28 }
+{
+    let a = semi_major_axis(c, q.t, p28?);
+    let e = numbers(c, q, s, p29, a, power(a)?);
+    e.is_finite().then_some(e)
 }
 
 // x; a NaN by the one pattern that the compiler gives 0.0 / 0.0.
 fn one_nan(x: f64) -> f64
     ensures { result ≡ x }
 {
-    if x != x {
-        return 0.0 / 0.0;
+    if x.is_nan() {
+        return f64::NAN;
     }
     x
 }
 
 // The elements from p28 and p29, or refusals 9 to 12. A refused p28 is reported last.
-pub fn elements_at(c: Constants, p28: Root, p29: f64, q: Question) -> Outcome
+#[tactic(auto, unfolding(crate::specs::Elements::elements_of))]
+pub fn elements_at(
+    c: Constants,
+    p28: Option<f64>,
+    p29: f64,
+    q: Question,
+) -> Result<Elements, ElementsError>
     ensures { result ≡ elements_of c p28 p29 q }
 {
     let inclination = inclination_at(c, q);
-    let w = sines(inclination);
-    let plane = plane_at(c.afspc_compatibility_mode, q, inclination, w);
-    if w.ok & plane.ok {
-        let p31 = p31(c, q.t);
-        if is_in_range(p31) {
-            let eccentricity = perturbed_eccentricity(p31, q);
-            if is_in_unit(eccentricity) {
-                let shape = Shape {
-                    inclination,
-                    right_ascension: plane.right_ascension,
-                    eccentricity,
-                    argument_of_perigee: plane.argument_of_perigee,
-                    sin: w.sin,
-                    cos: w.cos,
-                };
-                return completed(c, q, shape, p29, p28);
-            }
-            return Outcome::OutOfRangePerturbedEccentricity {
-                eccentricity: one_nan(eccentricity),
-                t: q.t,
-            };
-        }
-        return Outcome::OutOfRangeEccentricity {
+    let w = sin_cos(inclination).ok_or(ElementsError::AngleRefused)?;
+    let plane = plane_at(c.afspc_compatibility_mode, q, inclination, w).ok_or(
+        ElementsError::AngleRefused,
+    )?;
+    let p31 = p31(c, q.t);
+    if !is_in_range(p31) {
+        return Err(ElementsError::OutOfRangeEccentricity {
             eccentricity: one_nan(p31),
             t: q.t,
-        };
+        });
     }
-    Outcome::AngleRefused
+    let eccentricity = perturbed_eccentricity(p31, q);
+    if !is_in_unit(eccentricity) {
+        return Err(ElementsError::OutOfRangePerturbedEccentricity {
+            eccentricity: one_nan(eccentricity),
+            t: q.t,
+        });
+    }
+    let Plane {
+        right_ascension,
+        argument_of_perigee,
+    } = plane;
+    let SinCos { sin, cos } = w;
+    let shape = Shape {
+        inclination,
+        right_ascension,
+        eccentricity,
+        argument_of_perigee,
+        sin,
+        cos,
+    };
+    completed(c, q, shape, p29, p28).ok_or(ElementsError::ElementsNotFinite)
 }

@@ -1,24 +1,22 @@
 -- Where a rounded operation is exact: a fraction of a numerator below 2 ^ 53 and a power of two rounds to itself, and one of a unit or more rounds to no
 -- zero. And what the comparisons of zeros, of magnitudes and of numbers that are no NaN say. Assumes nothing.
 use mathlib.Core.Path.{◌≡◌, refl, sym, ap, ap₂, ◌∙◌, subst}
-use Prim.Native.Nat.{ℕ, zero, suc, ◌+◌, ◌-◌, ◌*◌, ◌/◌, ◌%◌, ◌^◌, ◌≤◌, ◌<◌, compare, zero-le}
-use native.Mathlib.Nat.{le_trans, le_of_eq, lt_of_lt_of_le, lt_of_le_of_lt, lt_of_not-le, le_of_suc-le-suc, not-le_of_lt, lt_irrefl, mul_assoc, mul-le-mul_right, mul-pos, zero-mul, mul-one, one-mul, sub-add_cancel, add_comm, add-zero, le-div_iff_mul-le, div-div-eq-div-mul}
+use Prim.Native.Nat.{ℕ, zero, suc, ◌+◌, ◌-◌, ◌*◌, ◌/◌, ◌%◌, ◌^◌, ◌≤◌, ◌<◌, compare}
+use native.Mathlib.Nat.{le_trans, le_of_eq, lt_of_lt_of_le, lt_of_le_of_lt, lt_of_not-le, le_of_suc-le-suc, not-le_of_lt, lt_irrefl, mul_assoc, mul-le-mul_right, mul-pos, zero-mul, mul-one, one-mul, sub-add_cancel, add_comm, le-div_iff_mul-le, div-div-eq-div-mul}
 use native.Mathlib.Omega.{arith}
-use mathlib.Core.Bool.{Bool, true, false, not, ◌&&◌, cond, false≢true, ◌||◌}
+use mathlib.Core.Bool.{Bool, true, false, not, ◌&&◌, cond, ◌||◌}
 use lib.IntN.{ℤ, pos, negsuc}
 use lib.Dec.{T, leb, ltb, eqb, leb→le, ltb→lt, eqb→eq, lit<, lit≤}
 use lib.Pow.{pow-add, pow_pos, pow_mono, pow-lt, shl_lt}
-use lib.Ieee.{Float, nan, inf, fin, binary64, up, down, size, nearest, odd, units, round, fits, below, lt, le, eq, neg, is_nan}
+use lib.Ieee.{Float, nan, inf, fin, binary64, up, down, size, nearest, odd, units, round, fits, below, lt, le, eq, is_nan}
 use lib.Ieee.Digits.{size-lt, size_reaches}
 use lib.Ieee.Fits.{up_pos, down_pos, and_l, and_r, round_is}
 use lib.Ieee.Exact.{HasValue, round_exact, odd_sign}
 use lib.Ieee.Nearest.{nearest-ge}
 use lib.Ieee.Positive.{first_pos}
-use borrow.Author.Tests.{leb-true, leb-false, ltb-true, ltb-false, lt-leb, le-leb, le-ltb, ne_eqb}
-use lib.Ieee.Scale.{finite}
-use Rattle.floats.specs.Rounded.{dec, magnitude}
-use Rattle.floats.specs.Value.{at_most, is_zero, shorter}
-use Rattle.floats.proofs.Values.{signed_le, le-fin, le-values, none-pos, zero-iff, zero_test, own}
+use borrow.Author.Tests.{leb-true, leb-false, ltb-true, ltb-false, lt-leb, ne_eqb}
+use Rattle.floats.specs.Value.{at_most, is_zero}
+use Rattle.floats.proofs.Values.{signed_le, le-fin, none-pos, zero-iff, zero_test, own}
 
 -- ---- exact
 pow-inv : (a b : ℕ) → 2 ^ a ≤ 2 ^ b → a ≤ b
@@ -181,34 +179,3 @@ record Sized (x : Float) (a c : ℕ) : Type 0 where
   sign : Bool
   value : HasValue x sign a c
   plain : sign ≡ true → a ≡ 0
-
-magnitude-sized : (s : Bool) (m : ℕ) (e : ℤ) → Sized (magnitude (fin s m e)) (m * up e) (down e)
-unfolding dec round lt neg
-magnitude-sized false m e =
-    let none : ltb (m * up e * 1) (0 * down e) ≡ false = le-ltb (m * up e * 1) (0 * down e) (le_trans (le_of_eq (zero-mul (down e))) zero-le) in
-    subst (λ (b : Bool). Sized (cond b (fin true m e) (fin false m e)) (m * up e) (down e)) (sym none)
-    (record { sign = false; value = own false m e; plain = λ (q : false ≡ true). absurd (false≢true q) })
-magnitude-sized true m e = go (ltb 0 (m * up e * 1 + 0 * down e)) refl
-  where
-    go : (b : Bool) → ltb 0 (m * up e * 1 + 0 * down e) ≡ b → Sized (cond b (fin false m e) (fin true m e)) (m * up e) (down e)
-    go true p = record { sign = false; value = own false m e; plain = λ (q : false ≡ true). absurd (false≢true q) }
-    go false p = record { sign = true; value = own true m e; plain = λ (q : true ≡ true). omega (arith, ltb-false 0 (m * up e * 1 + 0 * down e) p) }
-
--- the order of two magnitudes is that of the sizes
-pub sizes : (x y : Float) → T (finite x) → T (finite y) → le (magnitude x) (magnitude y) ≡ not (shorter y x)
-sizes nan y p q = elim p [ ]
-sizes (inf _) y p q = elim p [ ]
-sizes (fin s m e) nan p q = elim q [ ]
-sizes (fin s m e) (inf _) p q = elim q [ ]
-sizes (fin s m e) (fin t n d) p q =
-    let a = magnitude-sized s m e in
-    let b = magnitude-sized t n d in
-    le-values (magnitude (fin s m e)) (magnitude (fin t n d)) a.sign (m * up e) (down e) b.sign (n * up d) (down d) (down_pos e) (down_pos d) a.value b.value
-    ∙ go a.sign b.sign (m * up e * down d) (n * up d * down e) (λ (h : a.sign ≡ true). ap (λ (z : ℕ). z * down d) (a.plain h) ∙ zero-mul (down d)) (λ (h : b.sign ≡ true). ap (λ (z : ℕ). z * down e) (b.plain h) ∙ zero-mul (down e))
-    ∙ leb-not (m * up e * down d) (n * up d * down e)
-  where
-    go : (s t : Bool) (A B : ℕ) → (s ≡ true → A ≡ 0) → (t ≡ true → B ≡ 0) → signed_le s A t B ≡ leb A B
-    go false false A B f g = refl
-    go false true A B f g = ap (λ (z : ℕ). leb (A + z) 0) (g refl) ∙ ap (λ (z : ℕ). leb z 0) (add-zero A) ∙ ap (λ (z : ℕ). leb A z) (sym (g refl))
-    go true false A B f g = sym (le-leb A B (le_trans (le_of_eq (f refl)) zero-le))
-    go true true A B f g = ap₂ (λ (x y : ℕ). leb x y) (g refl ∙ sym (f refl)) (f refl ∙ sym (g refl))

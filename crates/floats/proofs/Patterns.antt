@@ -1,7 +1,7 @@
 -- The value of a bit pattern, and the pattern of a value: a float that is not negative is its pattern's significand, shifted. Assumes nothing.
 use mathlib.Core.Path.{◌≡◌, refl, sym, ap, ◌∙◌, subst}
 use Prim.Native.Nat.{ℕ, suc, ◌+◌, ◌-◌, ◌*◌, ◌/◌, ◌%◌, ◌^◌, ◌≤◌, ◌<◌}
-use native.Mathlib.Nat.{le_trans, le_of_eq, lt_irrefl, lt_of_lt_of_le, lt_of_le_of_lt, lt_of_not-le, le_antisymm, mod-lt, mod-le, mod-eq_of_lt, zero-mul, mul-one, mul_assoc, mul_right_comm, mul-le-mul_right, mul-lt-mul_of_pos_right, mul-pos, mul-div_cancel, zero-div, div-lt_iff_lt-mul}
+use native.Mathlib.Nat.{le_trans, le_of_eq, lt_irrefl, lt_of_lt_of_le, lt_of_le_of_lt, lt_of_not-le, le_antisymm, mod-lt, mod-le, mod-eq_of_lt, mul-one, mul_assoc, mul_right_comm, mul-le-mul_right, mul-lt-mul_of_pos_right, mul-pos, mul-div_cancel, div-lt_iff_lt-mul}
 use native.Mathlib.Omega.{arith}
 use mathlib.Core.Bool.{Bool, true, false, not, ◌&&◌, cond, true≢false}
 use lib.IntN.{ℤ, pos}
@@ -79,18 +79,6 @@ plus-zero = refl
 pub minus-zero : of_bits binary64 0x8000_0000_0000_0000 ≡ fin true 0 (pos 0)
 unfolding of_bits
 minus-zero = refl
-
--- the pattern of a zero is that of a zero
-pub zero_bits : (s : Bool) (e : ℤ) → to_bits binary64 (fin s 0 e) ≡ cond s 0x8000_0000_0000_0000 0
-unfolding to_bits size
-zero_bits s e =
-    ap (λ (x : ℕ). cond s (2 ^ 63) 0 + (size x - 53) * 2 ^ 52 + x / 2 ^ (size x - 53))
-    (ap (λ (x : ℕ). x * 2 ^ 1074 / down e) (zero-mul (up e)) ∙ ap (λ (x : ℕ). x / down e) (zero-mul (2 ^ 1074)) ∙ zero-div (down e))
-    ∙ go s
-  where
-    go : (s : Bool) → cond s (2 ^ 63) 0 + 0 * 2 ^ 52 + 0 / 2 ^ 0 ≡ cond s 0x8000_0000_0000_0000 0
-    go true = refl
-    go false = refl
 
 -- that of a positive value is below that of the infinity
 pub positive-bits : (m : ℕ) (e : ℤ) → T (fits binary64 (fin false (suc m) e)) → to_bits binary64 (fin false (suc m) e) < 2047 * 2 ^ 52

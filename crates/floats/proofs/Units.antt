@@ -1,6 +1,6 @@
 -- The value of a pattern in units of 2 ^ -1074, its sign apart, and the remainder of two floats as that of two such numbers. Assumes nothing.
 use mathlib.Core.Path.{◌≡◌, refl, sym, ap, ap₂, ◌∙◌, subst}
-use Prim.Native.Nat.{ℕ, zero, suc, ◌+◌, ◌-◌, ◌*◌, ◌/◌, ◌%◌, ◌^◌, ◌≤◌, ◌<◌}
+use Prim.Native.Nat.{ℕ, zero, suc, ◌+◌, ◌-◌, ◌*◌, ◌/◌, ◌%◌, ◌^◌, ◌≤◌, ◌<◌, min}
 use native.Mathlib.Nat.{le_trans, le_of_eq, lt_of_lt_of_le, lt_of_le_of_lt, lt_irrefl, mod-lt, mod-eq_of_lt, zero-mul, mul-one, add-mul, mul_assoc, mul_comm, mul_right_comm, mul-pos, mul-le-mul_right, mul-le-mul_left, mul-lt-mul_of_pos_right, mul-div_cancel, div-add-mod', zero-lt-suc}
 use native.Mathlib.Omega.{arith}
 use mathlib.Core.Bool.{Bool, true, false, not, cond, beq}
@@ -154,25 +154,14 @@ module _ (sig : ℕ) (some : 0 < sig) (few : sig < 2 ^ 53) where
       join : 52 ≡ top.0 + (count_leading_zeros 64 sig - 11)
       join = omega (arith, low, top.1)
 
-  pub moved-full : (shift : ℕ) → count_leading_zeros 64 sig - 11 < shift → Moved sig shift (count_leading_zeros 64 sig - 11)
-  moved-full shift h =
-      let up = count_leading_zeros 64 sig - 11 in
-      record { kept = kept-up up (same up); few = few-up up (same up); lean = λ (l : sig * 2 ^ up < 2 ^ 52). absurd (lt_irrefl (2 ^ 52) (lt_of_le_of_lt full l)); within = less up shift h }
+  pub moved-min : (shift : ℕ) → Moved sig shift (min (count_leading_zeros 64 sig - 11) shift)
+  moved-min shift = go (min (count_leading_zeros 64 sig - 11) shift) (omega arith) (omega arith) (omega arith)
     where
-      same : (k : ℕ) → k ≤ k
-      same k = omega arith
+      none : (up : ℕ) → up ≤ shift → (up < shift → ⊥) → shift - up ≡ 0
+      none up b h = omega arith
 
-      less : (k l : ℕ) → k < l → k ≤ l
-      less k l h = omega arith
-
-  pub moved-all : (shift : ℕ) → shift ≤ count_leading_zeros 64 sig - 11 → Moved sig shift shift
-  moved-all shift h = record { kept = kept-up shift h; few = few-up shift h; lean = λ _. none shift; within = same shift }
-    where
-      same : (k : ℕ) → k ≤ k
-      same k = omega arith
-
-      none : (k : ℕ) → k - k ≡ 0
-      none k = omega arith
+      go : (up : ℕ) → up ≤ count_leading_zeros 64 sig - 11 → up ≤ shift → (up < shift → up ≡ count_leading_zeros 64 sig - 11) → Moved sig shift up
+      go up a b c = record { kept = kept-up up a; few = few-up up a; lean = λ (l : sig * 2 ^ up < 2 ^ 52). none up b (λ (h : up < shift). lt_irrefl (2 ^ 52) (lt_of_le_of_lt full (subst (λ (k : ℕ). sig * 2 ^ k < 2 ^ 52) (c h) l))); within = b }
 
 pub moved-units : (sig shift up : ℕ) → Moved sig shift up → units_of ((shift - up) * 2 ^ 52 + sig * 2 ^ up % 2 ^ 64) ≡ sig * 2 ^ shift
 moved-units sig shift up m =

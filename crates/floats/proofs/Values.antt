@@ -1,18 +1,19 @@
--- A comparison of floats as one of the fractions that they equal, and the tests of finiteness and sign by comparisons. Assumes nothing.
+-- A comparison of floats as one of the fractions that they equal, and the library's words for finiteness and sign. Assumes nothing.
 use mathlib.Core.Path.{◌≡◌, refl, sym, ap, ap₂, ◌∙◌, subst}
-use Prim.Native.Nat.{ℕ, zero, suc, ◌+◌, ◌-◌, ◌*◌, ◌^◌, ◌≤◌, ◌<◌}
-use native.Mathlib.Nat.{le_refl, zero-lt-suc, sub_self, le_trans, le_of_eq, mul_comm, mul_assoc, mul_left_comm, mul-le-mul_right, le_of_mul-le-mul_right, mul-pos, zero-mul, add-mul, mul-one, mul-mul-mul_comm, eq-zero-or-pos, lt_irrefl}
+use Prim.Native.Nat.{ℕ, ◌+◌, ◌*◌, ◌^◌, ◌≤◌, ◌<◌}
+use native.Mathlib.Nat.{le_trans, le_of_eq, mul_comm, mul_assoc, mul_left_comm, mul-le-mul_right, le_of_mul-le-mul_right, mul-pos, zero-mul, add-mul, mul-one, mul-mul-mul_comm, eq-zero-or-pos, lt_irrefl}
 use mathlib.Core.Logic.{inl, inr}
 use native.Mathlib.Omega.{arith}
-use mathlib.Core.Bool.{Bool, true, false, not, ◌&&◌, ◌||◌, cond, beq, true≢false, false≢true}
+use mathlib.Core.Bool.{Bool, true, false, ◌&&◌, ◌||◌, beq, false≢true}
 use lib.IntN.{ℤ, pos}
 use lib.Dec.{T, leb, ltb, eqb, leb→le, le→leb, eqb→eq, lit<}
-use lib.Ieee.{Float, nan, inf, fin, binary64, up, down, below, level, lt, le, eq, sub, add, neg, div, round}
-use lib.Ieee.Fits.{up_pos, down_pos, eq→eqb}
-use lib.Ieee.Exact.{HasValue, round_exact}
+use lib.Ieee.{Float, nan, inf, fin, up, down, below, level, le, eq, is_nan}
+use lib.Ieee.Fits.{down_pos, eq→eqb}
+use lib.Ieee.Exact.{HasValue}
 use lib.Ieee.Scale.{finite}
+use Rattle.std.specs.Float.{float_is_finite, is_sign_negative}
 use Rattle.floats.specs.Value.{at_most, negative}
-use borrow.Author.Tests.{ltb-true, ltb-false, leb-true, leb-false, eqb-true, eqb-false, lt-ltb, le-ltb, ne_eqb}
+use borrow.Author.Tests.{ltb-true, ltb-false, leb-true, leb-false, eqb-true, eqb-false}
 
 -- two tests that each follow from the other
 pub same : (x y : Bool) → (T x → T y) → (T y → T x) → x ≡ y
@@ -30,14 +31,6 @@ signed_le false a false b = leb a b
 signed_le false a true b = leb (a + b) 0
 signed_le true a false b = true
 signed_le true a true b = leb b a
-
-or-t : (x y : Bool) → T x → T (x || y)
-or-t true y t = tt
-or-t false y t = absurd t
-
-or-u : (x y : Bool) → T y → T (x || y)
-or-u true y t = tt
-or-u false y t = t
 
 le_is : (a b : ℕ) (w : Bool) → (ltb a b || (eqb a b && (true || w))) ≡ leb a b
 le_is a b w = go (leb a b) (eqb a b) (ltb a b) refl refl refl
@@ -140,10 +133,6 @@ between (fin false m e) N k n h =
     ∙ and-true (leb (m * up e * 1) (n * down e))
     ∙ ap (λ (z : ℕ). leb z (n * down e)) (mul-one (m * up e))
 
--- the fraction of +0.0
-pub zero_val : HasValue (fin false 0 (pos 0)) false 0 1
-zero_val = (refl, refl)
-
 -- ---- a float by its value against zero
 pub none-pos : (P c a D : ℕ) → 0 < c → P * c ≡ a * D → a ≡ 0 → P ≡ 0
 none-pos P c a D C h z = elim (eq-zero-or-pos P) [
@@ -168,75 +157,23 @@ zero_test (fin t m e) s a c C v =
     let p : m * up e * 1 * c ≡ a * down e = ap (λ (x : ℕ). x * c) (mul-one (m * up e)) ∙ v.1 in
     rw (zero-mul (down e)) (level-zero t (eqb (m * up e * 1) 0) ∙ zero-iff (m * up e * 1) c a (down e) C (down_pos e) p)
 
--- ---- finite, by the difference with itself
+-- ---- the library's words for a float
 
-and_no : (s : Bool) → (s && false) ≡ false
-and_no true = refl
-and_no false = refl
+pub finite_is : (x : Float) → float_is_finite x ≡ finite x
+unfolding float_is_finite
+finite_is nan = refl
+finite_is (inf s) = refl
+finite_is (fin s m e) = refl
 
--- a fraction of 0 rounds to a zero
-pub zero-round : (s : Bool) (c : ℕ) → 0 < c → HasValue (round binary64 s 0 c) s 0 c
-zero-round s c C = round_exact binary64 s 0 c 0 0 C (lit< tt) (lit< tt) (zero-mul (2 ^ 1074) ∙ sym (zero-mul c))
+pub negative_is : (x : Float) → is_sign_negative x ≡ negative x
+unfolding is_sign_negative
+negative_is nan = refl
+negative_is (inf s) = refl
+negative_is (fin s m e) = refl
 
-pub finite-is : (x : Float) → eq (sub binary64 x x) (fin false 0 (pos 0)) ≡ finite x
-unfolding sub add neg eq
-finite-is nan = refl
-finite-is (inf true) = refl
-finite-is (inf false) = refl
-finite-is (fin s m e) = unfold sub add neg eq in (ap (λ (x : Float). eq x (fin false 0 (pos 0))) (at s) ∙ zero_test (round binary64 false 0 D) false 0 D D-pos (zero-round false D D-pos))
-  where
-    A : ℕ
-    A = m * up e * down e
-
-    D : ℕ
-    D = down e * down e
-
-    D-pos : 0 < down e * down e
-    D-pos = mul-pos (down_pos e) (down_pos e)
-
-    nothing : (s : Bool) (a : ℕ) → cond (ltb a a) (round binary64 (not s) (a - a) (down e * down e)) (round binary64 (s && ltb a a) (a - a) (down e * down e)) ≡ round binary64 false 0 (down e * down e)
-    nothing s a =
-        ap (λ (b : Bool). cond b (round binary64 (not s) (a - a) (down e * down e)) (round binary64 (s && b) (a - a) (down e * down e))) (le-ltb a a (le_refl a))
-        ∙ ap (λ (b : Bool). round binary64 b (a - a) (down e * down e)) (and_no s)
-        ∙ ap (λ (k : ℕ). round binary64 false k (down e * down e)) (sub_self a)
-
-    at : (s : Bool) → sub binary64 (fin s m e) (fin s m e) ≡ round binary64 false 0 (down e * down e)
-    at true = unfold sub add neg in nothing true (m * up e * down e)
-    at false = unfold sub add neg in nothing false (m * up e * down e)
-
--- ---- the sign bit, by comparisons
-
-not-zero : (s : Bool) (m : ℕ) (e : ℤ) → eq (fin s (suc m) e) (fin false 0 (pos 0)) ≡ false
-not-zero s m e =
-    zero_test (fin s (suc m) e) s (suc m * up e) (down e) (down_pos e) (refl, refl)
-    ∙ ne_eqb (suc m * up e) 0 (λ (h : suc m * up e ≡ 0). lt_irrefl 0 (subst (λ (z : ℕ). 0 < z) h (mul-pos (zero-lt-suc m) (up_pos e))))
-
-pub at_zero : (x : Float) → eq x (fin false 0 (pos 0)) ≡ true → lt (div binary64 (fin false 1 (pos 0)) x) (fin false 0 (pos 0)) ≡ negative x
-unfolding eq lt div
-at_zero nan h = absurd (false≢true h)
-at_zero (inf s) h = absurd (false≢true h)
-at_zero (fin true zero e) h = refl
-at_zero (fin false zero e) h = refl
-at_zero (fin s (suc m) e) h = absurd (false≢true (sym (not-zero s m e) ∙ unfold eq in h))
-
-pub past-zero : (x : Float) → eq x (fin false 0 (pos 0)) ≡ false → lt x (fin false 0 (pos 0)) ≡ negative x
-unfolding lt
-past-zero nan h = refl
-past-zero (inf s) h = refl
-past-zero (fin s zero e) h = absurd (true≢false (sym (zero_test (fin s zero e) s (zero * up e) (down e) (down_pos e) (refl, refl) ∙ ap (λ (k : ℕ). eqb k 0) (zero-mul (up e))) ∙ h))
-past-zero (fin true (suc m) e) h = lt-ltb 0 (suc m * up e * 1 + 0 * down e) (omega (arith, mul-pos (zero-lt-suc m) (up_pos e)))
-past-zero (fin false (suc m) e) h = ap (λ (k : ℕ). ltb (suc m * up e * 1) k) (zero-mul (down e)) ∙ le-ltb (suc m * up e * 1) 0 (omega arith)
-
--- ---- tests of the code
-
--- a test x that a callee says is y, in the arm of `if !x` and past it
-pub failed : (x y : Bool) → x ≡ y → not x ≡ true → y ≡ false
-failed true y p q = sym (true-not q p)
-  where
-    true-not : false ≡ true → true ≡ y → false ≡ y
-    true-not q p = q ∙ p
-failed false y p q = sym p
-
-pub passed : (x y : Bool) → x ≡ y → not x ≡ false → y ≡ true
-passed true y p q = sym p
-passed false y p q = sym p ∙ sym q
+-- a NaN has no sign
+pub nan_plain : (x : Float) → is_nan x ≡ true → false ≡ negative x
+unfolding is_nan
+nan_plain nan h = refl
+nan_plain (inf s) h = absurd (false≢true h)
+nan_plain (fin s m e) h = absurd (false≢true h)

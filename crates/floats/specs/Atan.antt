@@ -1,6 +1,6 @@
 -- The angle of the point (x, y), Rust's y.atan2(x), as rounded operations: the recipe is the definition (docs/FLOATS.md has it in numbered steps).
 -- Definitions only. Assumes nothing.
-use Rattle.std.specs.Prelude.{cond, ◌&&◌, Float}
+use Rattle.std.specs.Prelude.{Bool, cond, ◌&&◌, Float}
 use Rattle.std.specs.Float.{nan}
 use Rattle.std.specs.Float.Ieee.{lt, eq}
 use Rattle.std.specs.Float.Ieee.Scale.{finite}
@@ -17,19 +17,15 @@ arc_sum z =
 unfoldable pub arc_kernel : Float → Float
 arc_kernel u = let z = u ⊗ u in u ⊖ u ⊗ (z ⊗ arc_sum z)
 
--- -1 where x is below 0, and 1 elsewhere
-unfoldable pub side : Float → Float
-side x = cond (lt x (dec 0 0)) (⊝ dec 1 0) (dec 1 0)
+-- -1 where the test holds, and 1 elsewhere
+unfoldable pub sign : Bool → Float
+sign below = cond below (⊝ dec 1 0) (dec 1 0)
 
 abbrev pub lesser : Float → Float → Float
 lesser a b = cond (lt a b) a b
 
 abbrev pub greater : Float → Float → Float
 greater a b = cond (lt a b) b a
-
--- -1 where the slope a/b is above 1, and 1 elsewhere
-unfoldable pub sense : Float → Float → Float
-sense a b = cond (lt b a) (⊝ dec 1 0) (dec 1 0)
 
 -- the slope of the direction from which t is measured: tan 30° where t is above tan 15°, and 0 elsewhere
 unfoldable pub centre : Float → Float
@@ -47,12 +43,12 @@ rest t = let q = centre t in arc_kernel ((t ⊖ q) ⊘ (dec 1 0 ⊕ t ⊗ q))
 -- Elsewhere it is that angle from π/2, down where x is not below 0 and up where it is. `way` says which, and y's sign is put on at the end.
 unfoldable pub pointed : Float → Float → Float
 pointed y x =
-    let sy = side y in
-    let sx = side x in
+    let sy = sign (lt y (dec 0 0)) in
+    let sx = sign (lt x (dec 0 0)) in
     let a = y ⊗ sy in
     let b = x ⊗ sx in
     let t = lesser a b ⊘ greater a b in
-    let way = sense a b ⊗ sx in
+    let way = sign (lt b a) ⊗ sx in
     let base = dec 15707963267948966 16 ⊖ dec 7853981633974483 16 ⊗ (way ⊕ sx) in
     sy ⊗ (base ⊕ way ⊗ lean t) ⊕ (sy ⊗ way) ⊗ rest t
 

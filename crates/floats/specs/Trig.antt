@@ -1,19 +1,17 @@
 -- Sine and cosine of an angle in radians, as rounded operations: the recipe is the definition (docs/FLOATS.md has it in numbered steps). Definitions only.
 -- Assumes nothing.
-use Rattle.std.specs.Prelude.{ℕ, zero, suc, ◌*◌, Bool, true, false, cond, Float}
+use Rattle.std.specs.Prelude.{ℕ, zero, suc, ◌*◌, Bool, true, false, cond, Float, Option, Some, None}
+use Rattle.std.specs.Bool.{then_some}
 use Rattle.std.specs.Float.{binary64}
 use Rattle.std.specs.Float.Ieee.{round, le, of_bits}
 use Rattle.floats.specs.Rounded.{◌⊕◌, ◌⊖◌, ◌⊗◌, dec, magnitude}
 use Rattle.floats.specs.declared.trig.Wave.{Wave}
 use Rattle.floats.specs.declared.trig.SinCos.{SinCos}
-use Rattle.floats.specs.declared.trig.SinCos.TheVariants.{Of as both, Outside as neither}
-use Rattle.floats.specs.declared.trig.Trig.{Trig}
-use Rattle.floats.specs.declared.trig.Trig.TheVariants.{Of, Outside}
 
 -- document 01's number of an answer: 0 where the angle is answered, and 9 where it is refused
-abbrev pub number : Trig → ℕ
-number (Of y) = 0
-number Outside = 9
+abbrev pub number : Option Float → ℕ
+number (Some y) = 0
+number None = 9
 
 -- the largest magnitude that is answered
 unfoldable pub angle_limit : Float
@@ -95,11 +93,11 @@ wave_of x =
     (turned (reduced x (quarters x)) (quarters x) (le (magnitude x) angle_limit))
 
 -- both where x is answered
-abbrev pub sin_cos_of : Float → SinCos
-sin_cos_of x = cond (wave_of x).ok (both (wave_of x).sin (wave_of x).cos) neither
+abbrev pub sin_cos_of : Float → Option SinCos
+sin_cos_of x = then_some (wave_of x).ok (record { sin = (wave_of x).sin; cos = (wave_of x).cos })
 
-abbrev pub sine_of : Float → Trig
-sine_of x = cond (wave_of x).ok (Of (wave_of x).sin) Outside
+abbrev pub sine_of : Float → Option Float
+sine_of x = then_some (wave_of x).ok (wave_of x).sin
 
-abbrev pub cosine_of : Float → Trig
-cosine_of x = cond (wave_of x).ok (Of (wave_of x).cos) Outside
+abbrev pub cosine_of : Float → Option Float
+cosine_of x = then_some (wave_of x).ok (wave_of x).cos

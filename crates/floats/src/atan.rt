@@ -1,8 +1,10 @@
-// The angle of a point, from the slope of its lesser over its greater coordinate.
+// The angle of a point, from the slope of its lesser over its greater coordinate. No clause of the
+// library says what its own gives, by the C library.
 ghost use Rattle.std.specs.Prelude.{◌≡◌};
-ghost use Rattle.floats.specs.Atan.{arc_sum, arc_kernel, side as side_of, lesser as lesser_of, greater as greater_of, sense as sense_of, centre as centre_of, lean as lean_of, rest as rest_of, pointed as pointed_of, along as along_of, arc_of};
+ghost use Rattle.floats.specs.Atan.{arc_sum, arc_kernel, sign as sign_of, lesser, greater, centre as centre_of, lean as lean_of, rest as rest_of, pointed as pointed_of, along as along_of, arc_of};
 
 use crate::finite::{is_finite, is_negative};
+use std::f64::consts::{FRAC_PI_2, FRAC_PI_4, PI};
 
 // The polynomial of `arc_kernel` in z = u².
 fn arc_sum(z: f64) -> f64
@@ -24,30 +26,19 @@ fn arc_kernel(u: f64) -> f64
     u - u * (z * arc_sum(z))
 }
 
-// -1 below 0, and 1 elsewhere.
-fn side(x: f64) -> f64
-    ensures { result ≡ side_of x }
+// -1 where `below` holds, and 1 elsewhere. The library's `signum` gives a zero its sign.
+fn sign(below: bool) -> f64
+    ensures { result ≡ sign_of below }
 {
-    if x < 0.0 { -1.0 } else { 1.0 }
+    if below { -1.0 } else { 1.0 }
 }
 
-fn lesser(a: f64, b: f64) -> f64
-    ensures { result ≡ lesser_of a b }
+// The lesser of a and b, and the greater, each by one test. The library's `min` and `max` leave open
+// which of two zeros they give, where `lesser` and `greater` of specs/ say it.
+fn in_order(a: f64, b: f64) -> (f64, f64)
+    ensures { (result.0 ≡ lesser a b) × (result.1 ≡ greater a b) }
 {
-    if a < b { a } else { b }
-}
-
-fn greater(a: f64, b: f64) -> f64
-    ensures { result ≡ greater_of a b }
-{
-    if a < b { b } else { a }
-}
-
-// -1 where the slope a/b is above 1, and 1 elsewhere.
-fn sense(a: f64, b: f64) -> f64
-    ensures { result ≡ sense_of a b }
-{
-    if b < a { -1.0 } else { 1.0 }
+    if a < b { (a, b) } else { (b, a) }
 }
 
 // tan 30° where t is above tan 15°, and 0 elsewhere.
@@ -80,13 +71,14 @@ fn rest(t: f64) -> f64
 fn pointed(y: f64, x: f64) -> f64
     ensures { result ≡ pointed_of y x }
 {
-    let sy = side(y);
-    let sx = side(x);
+    let sy = sign(y < 0.0);
+    let sx = sign(x < 0.0);
     let a = y * sy;
     let b = x * sx;
-    let t = lesser(a, b) / greater(a, b);
-    let way = sense(a, b) * sx;
-    let base = 1.5707963267948966 - 0.7853981633974483 * (way + sx);
+    let (low, high) = in_order(a, b);
+    let t = low / high;
+    let way = sign(b < a) * sx;
+    let base = FRAC_PI_2 - FRAC_PI_4 * (way + sx);
     sy * (base + way * lean(t)) + (sy * way) * rest(t)
 }
 
@@ -96,9 +88,9 @@ fn along(y: f64, x: f64) -> f64
 {
     if is_negative(x) {
         if is_negative(y) {
-            return -3.141592653589793;
+            return -PI;
         }
-        return 3.141592653589793;
+        return PI;
     }
     y
 }

@@ -6,21 +6,25 @@ ghost use Rattle.std.specs.Float.Ieee.Scale.{finite};
 ghost use Rattle.floats.specs.Rounded.{magnitude as magnitude_of};
 ghost use Rattle.floats.specs.Value.{negative};
 
+use std::num::{f64_from_bits_with_nan, f64_to_bits_with_nan};
+
 // Whether x is neither a NaN nor an infinity.
+#[tactic(auto, using(crate::proofs::Values::finite_is))]
 pub fn is_finite(x: f64) -> bool
     ensures { result ≡ finite x }
 {
-    x - x == 0.0
+    x.is_finite()
 }
 
 // Whether x has the sign bit: x is below 0, or is -0.0.
+#[tactic(auto, using(crate::proofs::Values::negative_is, crate::proofs::Values::nan_plain))]
 pub fn is_negative(x: f64) -> bool
     ensures { result ≡ negative x }
 {
-    if x == 0.0 { 1.0 / x < 0.0 } else { x < 0.0 }
+    !x.is_nan() && x.is_sign_negative()
 }
 
-// x without its sign, but that -0.0 keeps it.
+// x without its sign, but that -0.0 keeps it, as `magnitude` of specs/ says: std's `abs` would take it off.
 pub fn magnitude(x: f64) -> f64
     ensures { result ≡ magnitude_of x }
 {
@@ -31,18 +35,12 @@ pub fn magnitude(x: f64) -> f64
 pub fn bits_of(x: f64) -> u64
     ensures { result ≡ to_bits binary64 x }
 {
-    if x != x {
-        return 0x7ff8_0000_0000_0000;
-    }
-    f64::to_bits(x)
+    f64_to_bits_with_nan(x)
 }
 
 // The float with these 64 bits.
 pub fn of_bits(n: u64) -> f64
     ensures { result ≡ of_bits binary64 n }
 {
-    if n % 0x8000_0000_0000_0000 > 0x7ff0_0000_0000_0000 {
-        return 0.0 / 0.0;
-    }
-    f64::from_bits(n)
+    f64_from_bits_with_nan(n)
 }

@@ -1,4 +1,5 @@
-// Small powers, multiplied as Rust's `powi` does.
+// Small powers, multiplied as Rust's `powi` does. The library's `powi` is no plainer: its clause has a
+// recursion over 32 digits and a product by 1.0.
 ghost use Rattle.std.specs.Prelude.{◌≡◌};
 ghost use Rattle.floats.specs.Power.{sq, cubed, 4th};
 

@@ -1,12 +1,8 @@
--- What an ask in place returns, and what it stores. Definitions only. Assumes nothing.
-use Rattle.resonance.specs.declared.ask.StateAsked.{StateAsked}
+-- What an ask in place returns. Definitions only. Assumes nothing.
+use Rattle.resonance.specs.declared.state.ResonanceState.{ResonanceState}
+use Rattle.resonance.specs.declared.ask.Asked.{Asked}
 use Rattle.in_place.specs.declared.InPlace.{InPlace}
-use Rattle.in_place.specs.declared.Parts.{Parts}
 
--- returned: the answer and the steps, without the state
-abbrev pub answered : StateAsked → InPlace
+-- the answer and the steps, without the state
+abbrev pub answered : Asked ResonanceState → InPlace
 answered a = record { answer = a.answer; steps = a.steps }
-
--- stored: the state, beside what is returned
-abbrev pub in_parts : StateAsked → Parts
-in_parts a = record { state = a.state; returned = answered a }

@@ -12,51 +12,34 @@
 -- 64-68    revolution
 -- 69       the check digit
 --
--- Columns count from 1; what stands between them is blank.
-use Rattle.std.specs.Prelude.{ℕ, ◌+◌, ◌-◌, Bool, ◌&&◌, List, get_or, leb}
+-- Columns count from 1; what stands between them is blank. The digits of a field without a point end where a point would follow.
+use Rattle.std.specs.Prelude.{ℕ, ◌-◌, List, get_or, refl}
 use Rattle.line.specs.declared.fields.Field.{Field}
 
 -- the byte in column k
 abbrev pub column : ℕ → List ℕ → ℕ
 column k s = get_or s (k - 1) 0
 
--- a field with a point, by its first column, its point and its last
-abbrev pub pointed : ℕ → ℕ → ℕ → Field
-pointed a p b = record { first = a; point = p; last = b }
-
--- a field without one: its digits end where a point would follow
-abbrev pub whole : ℕ → ℕ → Field
-whole a b = record { first = a; point = b + 1; last = b }
-
 abbrev pub satellite : Field
-satellite = whole 3 7
+satellite = record { first = 3; point = 8; last = 7; shape = refl }
 
 abbrev pub inclination : Field
-inclination = pointed 9 12 16
+inclination = record { first = 9; point = 12; last = 16; shape = refl }
 
 abbrev pub node : Field
-node = pointed 18 21 25
+node = record { first = 18; point = 21; last = 25; shape = refl }
 
 abbrev pub eccentricity : Field
-eccentricity = whole 27 33
+eccentricity = record { first = 27; point = 34; last = 33; shape = refl }
 
 abbrev pub perigee : Field
-perigee = pointed 35 38 42
+perigee = record { first = 35; point = 38; last = 42; shape = refl }
 
 abbrev pub anomaly : Field
-anomaly = pointed 44 47 51
+anomaly = record { first = 44; point = 47; last = 51; shape = refl }
 
 abbrev pub mean_motion : Field
-mean_motion = pointed 53 55 63
+mean_motion = record { first = 53; point = 55; last = 63; shape = refl }
 
 abbrev pub revolution : Field
-revolution = whole 64 68
-
--- what each field of the table is: in the columns of a line, a point inside it or right behind it, at most eleven columns
-abbrev pub shaped : Field → Bool
-shaped f =
-    leb 1 f.first
-    && (leb f.first f.point
-    && (leb f.point (f.last + 1)
-    && (leb f.last 68
-    && leb (f.last - f.first) 10)))
+revolution = record { first = 64; point = 69; last = 68; shape = refl }

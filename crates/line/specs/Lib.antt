@@ -1,3 +1,4 @@
+pub mod Shape
 pub mod Fields
 pub mod Read
 pub mod Examples

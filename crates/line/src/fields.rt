@@ -1,11 +1,15 @@
 // The fields of line two: one table, which says in which columns each stands. Columns count from 1.
+ghost use Rattle.std.specs.Prelude.{◌≡◌, true};
+ghost use Rattle.line.specs.Shape.{shaped};
 
 // A field: its first column, its point or, without one, the column behind its last, and its last column.
+// The point is no Option: the digits before it end in the same place without it, so that each user would write that column for None.
 #[derive(Clone, Copy)]
 pub struct Field {
     pub first: usize,
     pub point: usize,
     pub last: usize,
+    pub ghost shape: { shaped first point last ≡ true },
 }
 
 pub const SATELLITE: Field = Field {
@@ -56,8 +60,20 @@ pub const REVOLUTION: Field = Field {
     last: 68,
 };
 
+// The fields, in the order of the line.
+pub const FIELDS: [Field; 8] = [
+    SATELLITE,
+    INCLINATION,
+    NODE,
+    ECCENTRICITY,
+    PERIGEE,
+    ANOMALY,
+    MEAN_MOTION,
+    REVOLUTION,
+];
+
 // The eight numbers of a line: degrees by 10^4, eccentricity by 10^7, revolutions a day by 10^8.
-#[derive(Clone, Copy)]
+#[derive(Clone, Copy, Debug, PartialEq, Eq)]
 pub struct Numbers {
     pub satellite: u32,
     pub inclination: u32,

@@ -2,7 +2,7 @@
 use mathlib.Core.Path.{◌≡◌, refl, sym, ◌∙◌, ap}
 use mathlib.Core.Bool.{Bool, true, false, cond, ◌||◌}
 use mathlib.Core.List.{List}
-use Prim.Native.Nat.{ℕ, suc, ◌≤◌}
+use Prim.Native.Nat.{ℕ, ◌≤◌}
 use native.Mathlib.Omega.{arith}
 use borrow.Author.Tests.{eqb-true, eq-eqb, leb-true, le-leb, lt-leb, leb-false, le-ltb, ltb-false}
 use lib.ListN.{length, drop}
@@ -10,16 +10,15 @@ use lib.Seq.{take_at, drop_at}
 use lib.Dec.{eqb, leb, ltb}
 use Rattle.line.specs.Fields as F
 use Rattle.line.specs.Fields.{column}
-use Rattle.line.specs.Read.{check_digit, first_bad, bad_from, bad_after, numbers_of, number_of, turned, ranged, read_of, first_not, order}
+use Rattle.line.specs.Read.{check_digit, first_bad, bad_from, numbers_of, number_of, turned, ranged, numbered, read_of, first_not}
 use Rattle.line.specs.declared.fields.Numbers.{Numbers}
-use Rattle.line.specs.declared.read.Reading.{Reading}
-use Rattle.line.specs.declared.read.Reading.TheVariants.{Length, LineNumber, CheckDigit, BadColumn, Inclination, Angle, Line}
+use Rattle.line.specs.declared.read.LineError.{LineError}
+use Rattle.line.specs.declared.read.LineError.TheVariants.{Length, LineNumber, CheckDigit, Inclination, Angle}
+use Rattle.std.specs.Prelude.{Option, Some, None, Result, Ok, Err}
 use Rattle.line.proofs.Laws.{number-below}
 use Rattle.line_write.specs.Write.{padded, spelled, front_of, line_of, fitted_of, written_to, greatest}
 use Rattle.line_write.specs.RoundTrip.{ReadsBack, OneSpelling}
-use Rattle.line_write.specs.declared.Writing.{Writing}
-use Rattle.line_write.specs.declared.Writing.TheVariants.{OutputShort, DoesNotFit, Done}
-use Rattle.line_write.specs.declared.Name.{Name}
+use Rattle.line_write.specs.declared.WriteError.TheVariants.{OutputShort, DoesNotFit}
 use Rattle.line_write.specs.declared.Name.TheVariants as N
 use Rattle.line_write.proofs.Spelling.{Spelt, field-right, field-number}
 
@@ -35,7 +34,7 @@ pub record Ranged (n : Numbers) : Type 0 where
   pub mean_motion : n.mean_motion ≤ 9999999999
   pub revolution : n.revolution ≤ 99999
 
-fits : (n : Numbers) → Ranged n → fitted_of n ≡ Done
+fits : (n : Numbers) → Ranged n → fitted_of n ≡ Ok tt
 unfolding fitted_of
 fits n r =
     simp (
@@ -49,25 +48,22 @@ fits n r =
       le-leb _ _ r.revolution,
     )
 
--- a test that leaves the answer Done
-passed : (b : Bool) (x y : Writing) → (y ≡ Done → ⊥) → cond b x y ≡ Done → (b ≡ true) × (x ≡ Done)
-passed true x y h e = (refl, e)
-passed false x y h e = absurd (h e)
+-- a test that leaves an answer that is no refusal
+passed : {A E : Type 0} {a : A} (b : Bool) (x : Result A E) (e : E) → cond b x (Err e) ≡ Ok a → (b ≡ true) × (x ≡ Ok a)
+passed true x e h = (refl, h)
+passed false x e h = cc
 
-refused : (name : Name) → DoesNotFit name ≡ Done → ⊥
-refused name h = let z : ◌≡◌ {A = ℕ} 0 1 = cc in omega arith
-
-ranges : (n : Numbers) → fitted_of n ≡ Done → Ranged n
+ranges : (n : Numbers) → fitted_of n ≡ Ok tt → Ranged n
 unfolding fitted_of
 ranges n h =
-    let p0 = passed (leb n.satellite (greatest N.Satellite)) _ (DoesNotFit N.Satellite) (refused N.Satellite) h in
-    let p1 = passed (leb n.inclination (greatest N.Inclination)) _ (DoesNotFit N.Inclination) (refused N.Inclination) p0.1 in
-    let p2 = passed (leb n.node (greatest N.Node)) _ (DoesNotFit N.Node) (refused N.Node) p1.1 in
-    let p3 = passed (leb n.eccentricity (greatest N.Eccentricity)) _ (DoesNotFit N.Eccentricity) (refused N.Eccentricity) p2.1 in
-    let p4 = passed (leb n.perigee (greatest N.Perigee)) _ (DoesNotFit N.Perigee) (refused N.Perigee) p3.1 in
-    let p5 = passed (leb n.anomaly (greatest N.Anomaly)) _ (DoesNotFit N.Anomaly) (refused N.Anomaly) p4.1 in
-    let p6 = passed (leb n.mean_motion (greatest N.MeanMotion)) _ (DoesNotFit N.MeanMotion) (refused N.MeanMotion) p5.1 in
-    let p7 = passed (leb n.revolution (greatest N.Revolution)) _ (DoesNotFit N.Revolution) (refused N.Revolution) p6.1 in
+    let p0 = passed (leb n.satellite (greatest N.Satellite)) _ (DoesNotFit N.Satellite) h in
+    let p1 = passed (leb n.inclination (greatest N.Inclination)) _ (DoesNotFit N.Inclination) p0.1 in
+    let p2 = passed (leb n.node (greatest N.Node)) _ (DoesNotFit N.Node) p1.1 in
+    let p3 = passed (leb n.eccentricity (greatest N.Eccentricity)) _ (DoesNotFit N.Eccentricity) p2.1 in
+    let p4 = passed (leb n.perigee (greatest N.Perigee)) _ (DoesNotFit N.Perigee) p3.1 in
+    let p5 = passed (leb n.anomaly (greatest N.Anomaly)) _ (DoesNotFit N.Anomaly) p4.1 in
+    let p6 = passed (leb n.mean_motion (greatest N.MeanMotion)) _ (DoesNotFit N.MeanMotion) p5.1 in
+    let p7 = passed (leb n.revolution (greatest N.Revolution)) _ (DoesNotFit N.Revolution) p6.1 in
     record {
       satellite = leb-true _ _ p0.0;
       inclination = leb-true _ _ p1.0;
@@ -126,8 +122,8 @@ module _ (n : Numbers) where
   unfolding line_of front_of spelled padded first_not
   spelt-revolution = record { gap = refl; whole = refl; point = refl; behind = refl }
 
-  no-bad : first_bad (line_of n) ≡ 0
-  unfolding first_bad bad_from bad_after
+  no-bad : first_bad (line_of n) ≡ None
+  unfolding first_bad bad_from
   no-bad =
       simp (
         field-right _ _ _ _ _ spelt-satellite,
@@ -154,7 +150,7 @@ module _ (n : Numbers) where
         field-number _ _ _ _ _ spelt-revolution (omega (arith, r.revolution)),
       )
 
-  in-range : Ranged n → ranged n ≡ Line n
+  in-range : Ranged n → ranged n ≡ Ok n
   unfolding ranged turned
   in-range r =
       simp (
@@ -165,7 +161,7 @@ module _ (n : Numbers) where
       )
 
   -- it is read as the numbers it was written of
-  pub accepted : Ranged n → read_of (line_of n) ≡ Line n
+  pub accepted : Ranged n → read_of (line_of n) ≡ Ok n
   unfolding read_of
   accepted r =
       simp (
@@ -179,17 +175,15 @@ module _ (n : Numbers) where
 
 -- ---- a line that is read
 
--- a test that leaves a line
-read-true : {n : Numbers} (b : Bool) (x y : Reading) → (y ≡ Line n → ⊥) → cond b x y ≡ Line n → (b ≡ true) × (x ≡ Line n)
-read-true true x y h e = (refl, e)
-read-true false x y h e = absurd (h e)
+-- a test that does not refuse
+kept : {A E : Type 0} {a : A} (b : Bool) (e : E) (y : Result A E) → cond b (Err e) y ≡ Ok a → (b ≡ false) × (y ≡ Ok a)
+kept true e y h = cc
+kept false e y h = (refl, h)
 
-read-false : {n : Numbers} (b : Bool) (x y : Reading) → (x ≡ Line n → ⊥) → cond b x y ≡ Line n → (b ≡ false) × (y ≡ Line n)
-read-false true x y h e = absurd (h e)
-read-false false x y h e = (refl, e)
-
-none : (k : ℕ) → suc k ≡ 0 → ⊥
-none k h = omega arith
+-- a line without a bad column
+clear : {n : Numbers} (b : Option ℕ) (s : List ℕ) → numbered b s ≡ Ok n → ranged (numbers_of s) ≡ Ok n
+clear (Some k) s h = cc
+clear None s h = h
 
 -- an angle that is not turned
 either : (a b : Bool) → (a || b) ≡ false → (a ≡ false) × (b ≡ false)
@@ -202,26 +196,26 @@ of-line s h i t =
     let p = either (leb 3600000 (number_of F.node s)) _ t in
     let q = either (leb 3600000 (number_of F.perigee s)) _ p.1 in
     record {
-      satellite = omega (arith, number-below F.satellite s h refl);
+      satellite = omega (arith, number-below F.satellite s h);
       inclination = i;
       node = omega (arith, leb-false 3600000 (number_of F.node s) p.0);
-      eccentricity = omega (arith, number-below F.eccentricity s h refl);
+      eccentricity = omega (arith, number-below F.eccentricity s h);
       perigee = omega (arith, leb-false 3600000 (number_of F.perigee s) q.0);
       anomaly = omega (arith, leb-false 3600000 (number_of F.anomaly s) q.1);
-      mean_motion = omega (arith, number-below F.mean_motion s h refl);
-      revolution = omega (arith, number-below F.revolution s h refl);
+      mean_motion = omega (arith, number-below F.mean_motion s h);
+      revolution = omega (arith, number-below F.revolution s h);
     }
 
 -- its numbers are in their ranges
-pub read-ranged : (s : List ℕ) (n : Numbers) → read_of s ≡ Line n → Ranged n
+pub read-ranged : (s : List ℕ) (n : Numbers) → read_of s ≡ Ok n → Ranged n
 unfolding read_of ranged
 read-ranged s n h =
-    let a = read-true (eqb (length s) 69) _ Length (λ e. none _ (ap order e)) h in
-    let b = read-true (eqb (column 1 s) 0x32) _ LineNumber (λ e. none _ (ap order e)) a.1 in
-    let c = read-true (eqb (column 69 s) (check_digit s)) _ CheckDigit (λ e. none _ (ap order e)) b.1 in
-    let d = read-true (eqb (first_bad s) 0) _ (BadColumn (first_bad s)) (λ e. none _ (ap order e)) c.1 in
-    let i = read-false (ltb 1800000 (numbers_of s).inclination) Inclination _ (λ e. none _ (ap order e)) d.1 in
-    let t = read-false (turned (numbers_of s)) Angle (Line (numbers_of s)) (λ e. none _ (ap order e)) i.1 in
+    let a = passed (eqb (length s) 69) _ Length h in
+    let b = passed (eqb (column 1 s) 0x32) _ LineNumber a.1 in
+    let c = passed (eqb (column 69 s) (check_digit s)) _ CheckDigit b.1 in
+    let d = clear (first_bad s) s c.1 in
+    let i = kept (ltb 1800000 (numbers_of s).inclination) Inclination _ d in
+    let t = kept (turned (numbers_of s)) Angle (Ok (numbers_of s)) i.1 in
     let same : numbers_of s ≡ n = cc in
     rw same at (of-line s (eqb-true (length s) 69 a.0) (ltb-false 1800000 (numbers_of s).inclination i.0) t.0)
 
@@ -229,16 +223,12 @@ read-ranged s n h =
 
 pub reads-back : ReadsBack
 reads-back n out h =
-    let r = ranges n (written (ltb (length out) 69) (unfold written_to in h)) in
+    let r = ranges n (kept (ltb (length out) 69) OutputShort (fitted_of n) (unfold written_to in h)).1 in
     record {
       front = take_at (line_of n) _ 69 (length-line n);
       numbers = accepted n r;
       rest = drop_at (line_of n) (drop 69 out) 69 (length-line n);
     }
-  where
-    written : (b : Bool) → cond b OutputShort (fitted_of n) ≡ Done → fitted_of n ≡ Done
-    written true e = let z : ◌≡◌ {A = ℕ} 0 1 = cc in absurd (omega arith)
-    written false e = e
 
 pub one-spelling : OneSpelling
 one-spelling s n h =
@@ -249,5 +239,5 @@ one-spelling s n h =
       again = λ m e. ap line_of (same m (sym e ∙ accepted n r));
     }
   where
-    same : (m : Numbers) → Line m ≡ Line n → m ≡ n
+    same : (m : Numbers) → ◌≡◌ {A = Result Numbers LineError} (Ok m) (Ok n) → m ≡ n
     same m e = cc

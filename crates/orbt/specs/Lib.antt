@@ -1,3 +1,3 @@
-pub mod Written
+pub mod Answer
 pub mod Orbits
 pub mod Store

@@ -1,128 +1,78 @@
 // The float functions, under C's names.
-ghost use Rattle.std.specs.Prelude.{◌≡◌};
+ghost use Rattle.std.specs.Prelude.{◌≡◌, unwrap_or};
 ghost use Rattle.floats.specs.Root.{sqrt_of, cbrt_of, two_thirds, three_halves, number as root_number};
 ghost use Rattle.floats.specs.Trig.{sine_of, cosine_of, number as trig_number};
 ghost use Rattle.floats.specs.Floor.{floor_of};
 ghost use Rattle.floats.specs.Remainder.{rem_euclid};
 ghost use Rattle.floats.specs.Atan.{arc_of};
-ghost use Rattle.orbt.specs.Written.{root_or, trig_or};
 
+use crate::answer::put;
 use floats::atan::atan2;
 use floats::floor::floor;
 use floats::remainder::rem_euclid;
-use floats::root::{Root, cbrt, sqrt, three_halves, two_thirds};
-use floats::trig::{Trig, cos, sin, sines};
-
-// The number of an answer, and what stands behind its pointer: the answer, or what was there.
-fn root_number(r: Root) -> u32
-    ensures { result ≡ root_number r }
-{
-    match r {
-        Root::Of(_) => 0,
-        Root::Outside => 12,
-    }
-}
-
-fn root_or(old: f64, r: Root) -> f64
-    ensures { result ≡ root_or old r }
-{
-    match r {
-        Root::Of(y) => y,
-        Root::Outside => old,
-    }
-}
-
-fn trig_number(r: Trig) -> u32
-    ensures { result ≡ trig_number r }
-{
-    match r {
-        Trig::Of(_) => 0,
-        Trig::Outside => 9,
-    }
-}
-
-fn trig_or(old: f64, r: Trig) -> f64
-    ensures { result ≡ trig_or old r }
-{
-    match r {
-        Trig::Of(y) => y,
-        Trig::Outside => old,
-    }
-}
+use floats::root::{cbrt, sqrt, three_halves, two_thirds};
+use floats::trig::{SinCos, cos, sin, sin_cos};
 
 // The square root of x, or 12.
 #[unsafe(no_mangle)]
 pub extern "C" fn orbt_sqrt(x: f64, root: &mut f64) -> u32
-    ensures { (result ≡ root_number (sqrt_of x)) × (root.new ≡ root_or root.old (sqrt_of x)) }
+    ensures { (result ≡ root_number (sqrt_of x)) × (root.new ≡ unwrap_or (sqrt_of x) root.old) }
 {
-    let r = sqrt(x);
-    *root = root_or(*root, r);
-    root_number(r)
+    put(sqrt(x).ok_or(12), root)
 }
 
 // The greatest float whose cube is not above x, or 12.
 #[unsafe(no_mangle)]
 pub extern "C" fn orbt_cbrt(x: f64, root: &mut f64) -> u32
-    ensures { (result ≡ root_number (cbrt_of x)) × (root.new ≡ root_or root.old (cbrt_of x)) }
+    ensures { (result ≡ root_number (cbrt_of x)) × (root.new ≡ unwrap_or (cbrt_of x) root.old) }
 {
-    let r = cbrt(x);
-    *root = root_or(*root, r);
-    root_number(r)
+    put(cbrt(x).ok_or(12), root)
 }
 
 // x^(2/3), or 12.
 #[unsafe(no_mangle)]
 pub extern "C" fn orbt_two_thirds(x: f64, power: &mut f64) -> u32
-    ensures { (result ≡ root_number (two_thirds x)) × (power.new ≡ root_or power.old (two_thirds x)) }
+    ensures { (result ≡ root_number (two_thirds x)) × (power.new ≡ unwrap_or (two_thirds x) power.old) }
 {
-    let r = two_thirds(x);
-    *power = root_or(*power, r);
-    root_number(r)
+    put(two_thirds(x).ok_or(12), power)
 }
 
 // x^1.5, or 12.
 #[unsafe(no_mangle)]
 pub extern "C" fn orbt_three_halves(x: f64, power: &mut f64) -> u32
-    ensures { (result ≡ root_number (three_halves x)) × (power.new ≡ root_or power.old (three_halves x)) }
+    ensures { (result ≡ root_number (three_halves x)) × (power.new ≡ unwrap_or (three_halves x) power.old) }
 {
-    let r = three_halves(x);
-    *power = root_or(*power, r);
-    root_number(r)
+    put(three_halves(x).ok_or(12), power)
 }
 
 // The sine of x in rad, or 9.
 #[unsafe(no_mangle)]
 pub extern "C" fn orbt_sin(x: f64, sine: &mut f64) -> u32
-    ensures { (result ≡ trig_number (sine_of x)) × (sine.new ≡ trig_or sine.old (sine_of x)) }
+    ensures { (result ≡ trig_number (sine_of x)) × (sine.new ≡ unwrap_or (sine_of x) sine.old) }
 {
-    let r = sin(x);
-    *sine = trig_or(*sine, r);
-    trig_number(r)
+    put(sin(x).ok_or(9), sine)
 }
 
 // The cosine of x in rad, or 9.
 #[unsafe(no_mangle)]
 pub extern "C" fn orbt_cos(x: f64, cosine: &mut f64) -> u32
-    ensures { (result ≡ trig_number (cosine_of x)) × (cosine.new ≡ trig_or cosine.old (cosine_of x)) }
+    ensures { (result ≡ trig_number (cosine_of x)) × (cosine.new ≡ unwrap_or (cosine_of x) cosine.old) }
 {
-    let r = cos(x);
-    *cosine = trig_or(*cosine, r);
-    trig_number(r)
+    put(cos(x).ok_or(9), cosine)
 }
 
 // Sine and cosine of x by one reduction, or 9.
 #[unsafe(no_mangle)]
 pub extern "C" fn orbt_sin_cos(x: f64, sine: &mut f64, cosine: &mut f64) -> u32
-    ensures { (result ≡ trig_number (sine_of x)) × (sine.new ≡ trig_or sine.old (sine_of x))
-        × (cosine.new ≡ trig_or cosine.old (cosine_of x)) }
+    ensures { (result ≡ trig_number (sine_of x)) × (sine.new ≡ unwrap_or (sine_of x) sine.old)
+        × (cosine.new ≡ unwrap_or (cosine_of x) cosine.old) }
 {
-    let w = sines(x);
-    if w.ok {
-        *sine = w.sin;
-        *cosine = w.cos;
-        return 0;
-    }
-    9
+    let Some(SinCos { sin, cos }) = sin_cos(x) else {
+        return 9;
+    };
+    *sine = sin;
+    *cosine = cos;
+    0
 }
 
 // The greatest whole number that is not above x.

@@ -2,6 +2,7 @@
 // pointer, which a refused call leaves as it was.
 #![tactic(auto)]
 
+mod answer;
 pub mod float_calls;
 pub mod orbit_calls;
 pub mod store_calls;

@@ -1,25 +1,29 @@
 // The calls on orbits. Constants travel as their kind, the AFSPC flag and 34 floats in the order of a
-// store's body; a state as its three floats; a question as 13 floats.
-ghost use Rattle.std.specs.Prelude.{false, ◌≡◌};
+// store's body; a state as its three floats; a question as 13 floats. Kinds, flags and `held` are
+// numbers, with their pointers beside them, as C takes them.
+ghost use Rattle.std.specs.Prelude.{false, ◌≡◌, ◌+◌, ◌≤◌};
+ghost use Rattle.std.specs.Option.{option_map_or};
+ghost use Rattle.std.specs.Result.{result_unwrap_or};
 ghost use Rattle.orbit.specs.Class.{class_of};
 ghost use Rattle.orbit.specs.Model.{sidereal_of, number as sidereal_number};
 ghost use Rattle.constants.specs.Geometry.{geometry_of, number as geometry_number};
-ghost use Rattle.constants.specs.Build.{number as build_number};
 ghost use Rattle.resonance.specs.State.{fresh};
-ghost use Rattle.elements.specs.Elements.{number as outcome_number};
-ghost use Rattle.orbt.specs.Orbits.{which_of as which_named, sidereal_or, bodies_or, built_from, kind_or, constants_or, BuildLeaves, state_of as state_in, state_or, held_number, maybe_of, question_of as question_in, elements_list, carried_over, outcome_or, elements_or, answer_number, is_wrong as is_wrong_of, AskLeaves, stepped_number, stepped_state, StepLeaves};
+ghost use Rattle.orbt.specs.Answer.{result_map_or};
+ghost use Rattle.orbt.specs.Orbits.{which_of as which_named, body_list, bodies_list, dots_at as dots_from, built_from, BuildLeaves, state_of as state_in, state_list, held_number, maybe_of, periodic_at as periodic_from, question_of as question_in, elements_list, is_wrong as is_wrong_of, AskLeaves, StepLeaves};
 ghost use Rattle.record.specs.Record.{class_kind, constants_of};
 
-use constants::build::{Built, build};
-use constants::geometry::{Geometry, geometry_of};
+use crate::answer::put;
+use constants::build::build;
+use constants::error::BuildError;
+use constants::geometry::{Bodies, ThirdBody, geometry_of};
 use constants::given::{Dots, Given};
-use elements::elements::{Elements, Outcome, Periodic, Question};
+use elements::elements::{Elements, ElementsError, Periodic, Question};
 use orbit::class::class_of;
-use orbit::model::{Geopotential, Sidereal, SiderealTime, sidereal_time};
-use orbit::propagator::Orbit;
+use orbit::model::{Geopotential, SiderealError, SiderealTime, sidereal_time};
+use orbit::propagator::{Constants, Orbit};
 use record::{constants_of, kind_of, kind_of_class, numbers_of};
-use resonance::ask::Answer;
-use resonance::state::{MaybeState, ResonanceState, Stepped, initial_state};
+use resonance::ask::ask;
+use resonance::state::{ResonanceState, initial_state};
 
 // ---- class and sidereal time
 
@@ -35,29 +39,9 @@ pub extern "C" fn orbt_class(n: f64, e: f64) -> u32
 fn which_of(which: u32) -> SiderealTime
     ensures { result ≡ which_named which }
 {
-    if which == 0 {
-        return SiderealTime::Iau;
-    }
-    SiderealTime::Afspc
-}
-
-fn sidereal_number(s: Sidereal) -> u32
-    ensures { result ≡ sidereal_number s }
-{
-    match s {
-        Sidereal::Of(_) => 0,
-        Sidereal::EpochNotFinite => 3,
-        Sidereal::NotFinite => 13,
-    }
-}
-
-fn sidereal_or(old: f64, s: Sidereal) -> f64
-    ensures { result ≡ sidereal_or old s }
-{
-    match s {
-        Sidereal::Of(theta) => theta,
-        Sidereal::EpochNotFinite => old,
-        Sidereal::NotFinite => old,
+    match which {
+        0 => SiderealTime::Iau,
+        _ => SiderealTime::Afspc,
     }
 }
 
@@ -65,150 +49,123 @@ fn sidereal_or(old: f64, s: Sidereal) -> f64
 #[unsafe(no_mangle)]
 pub extern "C" fn orbt_sidereal_time(which: u32, epoch: f64, theta: &mut f64) -> u32
     ensures { (result ≡ sidereal_number (sidereal_of (which_named which) epoch))
-        × (theta.new ≡ sidereal_or theta.old (sidereal_of (which_named which) epoch)) }
+        × (theta.new ≡ result_unwrap_or (sidereal_of (which_named which) epoch) theta.old) }
 {
-    let s = sidereal_time(which_of(which), epoch);
-    *theta = sidereal_or(*theta, s);
-    sidereal_number(s)
+    put(
+        sidereal_time(which_of(which), epoch).map_err(SiderealError::number),
+        theta,
+    )
 }
 
 // ---- geometry
 
-fn geometry_number(g: Geometry) -> u32
-    ensures { result ≡ geometry_number g }
+fn body_list(b: ThirdBody) -> [f64; 7]
+    ensures { result ≡ body_list b }
 {
-    match g {
-        Geometry::Of(_) => 0,
-        Geometry::NumberNotFinite => 3,
-        Geometry::AngleOutside => 9,
-        Geometry::NotFinite => 13,
-    }
+    [
+        b.inclination_sine,
+        b.inclination_cosine,
+        b.delta_right_ascension_sine,
+        b.delta_right_ascension_cosine,
+        b.argument_of_perigee_sine,
+        b.argument_of_perigee_cosine,
+        b.mean_anomaly_0,
+    ]
 }
 
-fn bodies_or(old: [f64; 14], g: Geometry) -> [f64; 14]
-    ensures { result ≡ bodies_or old g }
+fn bodies_list(b: Bodies) -> [f64; 14]
+    ensures { result ≡ bodies_list b }
 {
-    match g {
-        Geometry::Of(b) => [
-            b.solar.inclination_sine,
-            b.solar.inclination_cosine,
-            b.solar.delta_right_ascension_sine,
-            b.solar.delta_right_ascension_cosine,
-            b.solar.argument_of_perigee_sine,
-            b.solar.argument_of_perigee_cosine,
-            b.solar.mean_anomaly_0,
-            b.lunar.inclination_sine,
-            b.lunar.inclination_cosine,
-            b.lunar.delta_right_ascension_sine,
-            b.lunar.delta_right_ascension_cosine,
-            b.lunar.argument_of_perigee_sine,
-            b.lunar.argument_of_perigee_cosine,
-            b.lunar.mean_anomaly_0,
-        ],
-        Geometry::NumberNotFinite => old,
-        Geometry::AngleOutside => old,
-        Geometry::NotFinite => old,
-    }
+    let mut list = [0.0; 14];
+    list[..7].copy_from_slice(&body_list(b.solar));
+    list[7..].copy_from_slice(&body_list(b.lunar));
+    list
 }
 
 // The seven numbers of the Sun and the seven of the Moon, or 3, 9 or 13.
 #[unsafe(no_mangle)]
 pub extern "C" fn orbt_geometry(right_ascension: f64, epoch: f64, bodies: &mut [f64; 14]) -> u32
     ensures { (result ≡ geometry_number (geometry_of right_ascension epoch))
-        × (bodies.new ≡ bodies_or bodies.old (geometry_of right_ascension epoch)) }
+        × (bodies.new ≡ result_map_or bodies_list (geometry_of right_ascension epoch) bodies.old) }
 {
-    let g = geometry_of(right_ascension, epoch);
-    *bodies = bodies_or(*bodies, g);
-    geometry_number(g)
+    put(
+        geometry_of(right_ascension, epoch)
+            .map(bodies_list)
+            .map_err(BuildError::number),
+        bodies,
+    )
 }
 
 // ---- build
 
-fn build_number(b: Built) -> u32
-    ensures { result ≡ build_number b }
+// The five rates of a body, from a place on.
+fn dots_at(x: &[f64; 31], i: usize) -> Dots
+    requires { i ≤ 26 }
+    ensures { result ≡ dots_from x.now i }
 {
-    match b {
-        Built::Of(_) => 0,
-        Built::NumberNotFinite => 3,
-        Built::AngleOutside => 9,
-        Built::NotFinite => 13,
-    }
-}
-
-fn kind_or(old: u32, b: Built) -> u32
-    ensures { result ≡ kind_or old b }
-{
-    match b {
-        Built::Of(c) => kind_of(c),
-        Built::NumberNotFinite => old,
-        Built::AngleOutside => old,
-        Built::NotFinite => old,
-    }
-}
-
-fn constants_or(old: [f64; 34], b: Built) -> [f64; 34]
-    ensures { result ≡ constants_or old b }
-{
-    match b {
-        Built::Of(c) => numbers_of(c),
-        Built::NumberNotFinite => old,
-        Built::AngleOutside => old,
-        Built::NotFinite => old,
+    Dots {
+        inclination: x[i],
+        right_ascension: x[i + 1],
+        eccentricity: x[i + 2],
+        argument_of_perigee: x[i + 3],
+        mean_anomaly: x[i + 4],
     }
 }
 
 // The build of 31 floats: model, orbit, what is given beside them, and the rates of Sun and Moon.
-fn built_from(which: u32, flag: bool, x: &[f64; 31]) -> Built
+#[tactic(auto, unfolding(crate::specs::Orbits::built_from))]
+fn built_from(which: u32, flag: bool, x: &[f64; 31]) -> Result<Constants, BuildError>
     ensures { result ≡ built_from which flag x.now }
 {
-    let geopotential = Geopotential {
-        ae: x[0],
-        ke: x[1],
-        j2: x[2],
-        j3: x[3],
-        j4: x[4],
-    };
-    let orbit_0 = Orbit {
-        inclination: x[5],
-        right_ascension: x[6],
-        eccentricity: x[7],
-        argument_of_perigee: x[8],
-        mean_anomaly: x[9],
-        mean_motion: x[10],
-    };
-    let given = Given {
-        epoch: x[11],
-        p1: x[12],
-        a0: x[13],
-        c1: x[14],
-        c4: x[15],
-        k0: x[16],
-        k1: x[17],
-        k14: x[18],
-        p14: x[19],
-        p15: x[20],
-    };
-    let solar = Dots {
-        inclination: x[21],
-        right_ascension: x[22],
-        eccentricity: x[23],
-        argument_of_perigee: x[24],
-        mean_anomaly: x[25],
-    };
-    let lunar = Dots {
-        inclination: x[26],
-        right_ascension: x[27],
-        eccentricity: x[28],
-        argument_of_perigee: x[29],
-        mean_anomaly: x[30],
-    };
+    let [
+        ae,
+        ke,
+        j2,
+        j3,
+        j4,
+        inclination,
+        right_ascension,
+        eccentricity,
+        argument_of_perigee,
+        mean_anomaly,
+        mean_motion,
+        epoch,
+        p1,
+        a0,
+        c1,
+        c4,
+        k0,
+        k1,
+        k14,
+        p14,
+        p15,
+        ..
+    ] = *x;
     build(
-        geopotential,
+        Geopotential { ae, ke, j2, j3, j4 },
         which_of(which),
-        orbit_0,
-        given,
-        solar,
-        lunar,
+        Orbit {
+            inclination,
+            right_ascension,
+            eccentricity,
+            argument_of_perigee,
+            mean_anomaly,
+            mean_motion,
+        },
+        Given {
+            epoch,
+            p1,
+            a0,
+            c1,
+            c4,
+            k0,
+            k1,
+            k14,
+            p14,
+            p15,
+        },
+        dots_at(x, 21),
+        dots_at(x, 26),
         flag,
     )
 }
@@ -227,10 +184,14 @@ pub extern "C" fn orbt_build(
     if flag > 1 {
         return 16;
     }
-    let b = built_from(which, flag == 1, given);
-    *kind = kind_or(*kind, b);
-    *constants = constants_or(*constants, b);
-    build_number(b)
+    match built_from(which, flag == 1, given) {
+        Ok(c) => {
+            *kind = kind_of(c);
+            *constants = numbers_of(c);
+            0
+        }
+        Err(e) => e.number(),
+    }
 }
 
 // ---- state
@@ -238,91 +199,36 @@ pub extern "C" fn orbt_build(
 fn state_of(x: [f64; 3]) -> ResonanceState
     ensures { result ≡ state_in x }
 {
+    let [t, mean_motion, lambda] = x;
     ResonanceState {
-        t: x[0],
-        mean_motion: x[1],
-        lambda: x[2],
+        t,
+        mean_motion,
+        lambda,
     }
 }
 
-pub(crate) fn state_or(old: [f64; 3], s: MaybeState) -> [f64; 3]
-    ensures { result ≡ state_or old s }
+pub(crate) fn state_list(s: ResonanceState) -> [f64; 3]
+    ensures { result ≡ state_list s }
 {
-    match s {
-        MaybeState::None => old,
-        MaybeState::Some(s) => [s.t, s.mean_motion, s.lambda],
-    }
-}
-
-// 1 where there is a state.
-pub(crate) fn is_held(s: MaybeState) -> u32
-    ensures { result ≡ held_number s }
-{
-    match s {
-        MaybeState::None => 0,
-        MaybeState::Some(_) => 1,
-    }
+    [s.t, s.mean_motion, s.lambda]
 }
 
 // The fresh state: 1 where the kind has one, 0 where it has none.
 #[unsafe(no_mangle)]
 pub extern "C" fn orbt_fresh(kind: u32, constants: &[f64; 34], state: &mut [f64; 3]) -> u32
     ensures { (result ≡ held_number (fresh (constants_of kind false constants.now)))
-        × (state.new ≡ state_or state.old (fresh (constants_of kind false constants.now))) }
+        × (state.new ≡ option_map_or state_list (fresh (constants_of kind false constants.now)) state.old) }
 {
-    let s = initial_state(constants_of(kind, false, constants));
-    *state = state_or(*state, s);
-    is_held(s)
+    match initial_state(constants_of(kind, false, constants)) {
+        Some(s) => {
+            *state = state_list(s);
+            1
+        }
+        None => 0,
+    }
 }
 
 // ---- ask
-
-fn outcome_number(o: Outcome) -> u32
-    ensures { result ≡ outcome_number o }
-{
-    match o {
-        Outcome::Of(_) => 0,
-        Outcome::AngleRefused => 9,
-        Outcome::OutOfRangeEccentricity {
-            eccentricity: _,
-            t: _,
-        } => 10,
-        Outcome::OutOfRangePerturbedEccentricity {
-            eccentricity: _,
-            t: _,
-        } => 11,
-        Outcome::ElementsNotFinite => 12,
-    }
-}
-
-fn answer_number(a: Answer) -> u32
-    ensures { result ≡ answer_number a }
-{
-    match a {
-        Answer::Refused(f) => f.number(),
-        Answer::Reached(o) => outcome_number(o),
-    }
-}
-
-// The two numbers that a refusal carries, and the rest as it was.
-fn carried(old: [f64; 12], eccentricity: f64, t: f64) -> [f64; 12]
-    ensures { result ≡ carried_over old eccentricity t }
-{
-    [
-        eccentricity,
-        t,
-        old[2],
-        old[3],
-        old[4],
-        old[5],
-        old[6],
-        old[7],
-        old[8],
-        old[9],
-        old[10],
-        old[11],
-    ]
-}
 
 // The twelve numbers: the orbit's six, a, and p32 to p36.
 fn elements_list(e: Elements) -> [f64; 12]
@@ -344,26 +250,17 @@ fn elements_list(e: Elements) -> [f64; 12]
     ]
 }
 
-fn outcome_or(old: [f64; 12], o: Outcome) -> [f64; 12]
-    ensures { result ≡ outcome_or old o }
+// The five numbers of the Sun or the Moon, from a place on.
+fn periodic_at(x: &[f64; 13], i: usize) -> Periodic
+    requires { i ≤ 8 }
+    ensures { result ≡ periodic_from x.now i }
 {
-    match o {
-        Outcome::Of(e) => elements_list(e),
-        Outcome::AngleRefused => old,
-        Outcome::OutOfRangeEccentricity { eccentricity, t } => carried(old, eccentricity, t),
-        Outcome::OutOfRangePerturbedEccentricity { eccentricity, t } => {
-            carried(old, eccentricity, t)
-        }
-        Outcome::ElementsNotFinite => old,
-    }
-}
-
-fn elements_or(old: [f64; 12], a: Answer) -> [f64; 12]
-    ensures { result ≡ elements_or old a }
-{
-    match a {
-        Answer::Refused(_) => old,
-        Answer::Reached(o) => outcome_or(old, o),
+    Periodic {
+        delta_eccentricity: x[i],
+        delta_inclination: x[i + 1],
+        delta_mean_motion: x[i + 2],
+        p4: x[i + 3],
+        p5: x[i + 4],
     }
 }
 
@@ -371,36 +268,20 @@ fn elements_or(old: [f64; 12], a: Answer) -> [f64; 12]
 fn question_of(x: &[f64; 13]) -> Question
     ensures { result ≡ question_in x.now }
 {
-    let solar = Periodic {
-        delta_eccentricity: x[3],
-        delta_inclination: x[4],
-        delta_mean_motion: x[5],
-        p4: x[6],
-        p5: x[7],
-    };
-    let lunar = Periodic {
-        delta_eccentricity: x[8],
-        delta_inclination: x[9],
-        delta_mean_motion: x[10],
-        p4: x[11],
-        p5: x[12],
-    };
+    let [t, p22, p23, ..] = *x;
     Question {
-        t: x[0],
-        p22: x[1],
-        p23: x[2],
-        solar,
-        lunar,
+        t,
+        p22,
+        p23,
+        solar: periodic_at(x, 3),
+        lunar: periodic_at(x, 8),
     }
 }
 
-pub(crate) fn maybe_state(held: u32, x: [f64; 3]) -> MaybeState
+pub(crate) fn maybe_state(held: u32, x: [f64; 3]) -> Option<ResonanceState>
     ensures { result ≡ maybe_of held x }
 {
-    if held == 1 {
-        return MaybeState::Some(state_of(x));
-    }
-    MaybeState::None
+    (held == 1).then_some(state_of(x))
 }
 
 // Whether a kind is above 2, or a flag above 1.
@@ -430,35 +311,29 @@ pub extern "C" fn orbt_ask(
         return 16;
     }
     let c = constants_of(kind, flag == 1, constants);
-    let q = question_of(question);
-    let a = maybe_state(held, *state).ask(c, q);
-    let answer = a.answer;
-    let moved = a.state;
-    *state = state_or(*state, moved);
-    *elements = elements_or(*elements, answer);
-    *steps = a.steps;
-    answer_number(answer)
+    let asked = ask(maybe_state(held, *state), c, question_of(question));
+    if let Some(moved) = asked.state {
+        *state = state_list(moved);
+    }
+    *steps = asked.steps;
+    match asked.answer {
+        Ok(Ok(found)) => {
+            *elements = elements_list(found);
+            0
+        }
+        Ok(Err(e)) => {
+            if let ElementsError::OutOfRangeEccentricity { eccentricity, t }
+            | ElementsError::OutOfRangePerturbedEccentricity { eccentricity, t } = e
+            {
+                elements[..2].copy_from_slice(&[eccentricity, t]);
+            }
+            e.number()
+        }
+        Err(fault) => fault.number(),
+    }
 }
 
 // ---- step
-
-fn stepped_number(s: Stepped) -> u32
-    ensures { result ≡ stepped_number s }
-{
-    match s {
-        Stepped::To(_) => 0,
-        Stepped::Refused { fault, state: _ } => fault.number(),
-    }
-}
-
-fn stepped_state(s: Stepped) -> [f64; 3]
-    ensures { result ≡ stepped_state s }
-{
-    match s {
-        Stepped::To(n) => [n.t, n.mean_motion, n.lambda],
-        Stepped::Refused { fault: _, state } => [state.t, state.mean_motion, state.lambda],
-    }
-}
 
 // One step of 720 minutes, back where `back` is 1; or 3, 4, 6 or 8; 16 where kind or `back` is wrong.
 #[unsafe(no_mangle)]
@@ -474,7 +349,14 @@ pub extern "C" fn orbt_step(
         return 16;
     }
     let c = constants_of(kind, false, constants);
-    let s = state_of(*state).step(c, back == 1);
-    *state = stepped_state(s);
-    stepped_number(s)
+    match state_of(*state).step(c, back == 1) {
+        Ok(next) => {
+            *state = state_list(next);
+            0
+        }
+        Err(refused) => {
+            *state = state_list(refused.state);
+            refused.fault.number()
+        }
+    }
 }

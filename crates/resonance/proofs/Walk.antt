@@ -5,7 +5,7 @@ use Prim.Native.Nat.{ℕ, suc, ◌+◌, ◌-◌, ◌*◌, ◌^◌, ◌≤◌, �
 use native.Mathlib.Nat.{le_trans, le_of_eq, lt_of_lt_of_le, add-zero, add-suc, sub-zero, zero-mul}
 use native.Mathlib.Numerals.{add-one}
 use native.Mathlib.Omega.{arith}
-use mathlib.Core.Bool.{Bool, true, false, not, ◌&&◌}
+use mathlib.Core.Bool.{Bool, true, false, not, ◌&&◌, cond}
 use lib.Dec.{T, ltb}
 use lib.Ieee.{Float, nan, inf, fin, binary64, up, down, fits}
 use lib.Ieee.Fits.{and_l, and_r}
@@ -15,33 +15,28 @@ use borrow.Author.Tests.{ltb-true, ltb-false, le-ltb}
 use Rattle.floats.specs.Value.{negative, is_zero, at_most, shorter}
 use Rattle.times.specs.declared.time.Fault.{Fault}
 use Rattle.times.specs.declared.time.Fault.TheVariants.{RatesRefused}
-use Rattle.times.specs.declared.time.Checked.{Checked}
-use Rattle.times.specs.declared.time.Checked.TheVariants.{Passed, Refused as refused}
+use Rattle.std.specs.Option.{option_and_then}
+use Rattle.std.specs.Result.{result_or}
+use Rattle.std.specs.Prelude.{Option, Some, None, Result, Ok, Err}
 use Rattle.rates.specs.declared.Integrator.{Integrator}
 use Rattle.resonance.specs.declared.state.ResonanceState.{ResonanceState}
-use Rattle.resonance.specs.declared.state.MaybeState.{MaybeState}
-use Rattle.resonance.specs.declared.state.MaybeState.TheVariants.{None, Some}
 use Rattle.resonance.specs.declared.advance.Walked.{Walked}
-use Rattle.resonance.specs.declared.advance.Walked.TheVariants.{At as walked, Stopped as stopped}
-use Rattle.resonance.specs.declared.advance.Advanced.{Advanced}
-use Rattle.resonance.specs.declared.advance.Advanced.TheVariants.{At, Refused}
-use Rattle.resonance.specs.declared.advance.Replayed.{Replayed}
 use Rattle.times.specs.Time.{limit, number, multiple, zero_time, back, placed, refusal, planned, plan, due}
-use Rattle.resonance.specs.State.{fresh_of, same_state, step_of}
-use Rattle.resonance.specs.Advance.{and_then, steps, one_more, made, taken, carried_out, advance_of, counted, walk_by, walk_of, agrees, replay_of}
+use Rattle.resonance.specs.State.{fresh_of, same_state, step_of, refused_with}
+use Rattle.resonance.specs.Advance.{steps, one_more, made, walked, taken, carried_out, advance_of, counted, walk_by, walk_of, agrees, replay_of}
 use Rattle.times.proofs.Placed.{At as Stands, at_next, due-is, placed-finite}
 use Rattle.times.proofs.Accepted.{accepted, accepted-at, accepted-le, accepted-most}
 use Rattle.resonance.proofs.Steps.{step-time, steps_on, made-on, made_all}
 
 -- ---- before each turn: n steps are made, from s to st
 pub record Walk (c : Integrator) (s : ResonanceState) (t : Float) (b : Bool) (st : ResonanceState) (n : ℕ) : Type 0 where
-  pub none : refusal s.t t ≡ Passed
+  pub none : refusal s.t t ≡ Ok tt
   pub way : back t ≡ b
   pub made : steps c b n s ≡ Some st
   pub place : Stands b (number s.t + n) st.t
   pub most : number s.t + n ≤ number t
 
-pub walk_start : (c : Integrator) (s : ResonanceState) (t : Float) → refusal s.t t ≡ Passed → Walk c s t (back t) s 0
+pub walk_start : (c : Integrator) (s : ResonanceState) (t : Float) → refusal s.t t ≡ Ok tt → Walk c s t (back t) s 0
 walk_start c s t p = record {
   none = p;
   way = refl;
@@ -73,53 +68,49 @@ module _ (c : Integrator) (s : ResonanceState) (t : Float) (b : Bool) (st : Reso
       }
     where
       one : steps c b 1 st ≡ Some st'
-      one = unfold steps in ap (λ (o : MaybeState). and_then o (λ (x : ResonanceState). steps c b 0 x)) p
+      one = unfold steps in ap (λ (o : Option ResonanceState). option_and_then (λ (x : ResonanceState). steps c b 0 x) o) p
 
   -- the loop's step is refused: as many are made as it counted
-  pub walk-stop : due b st.t t ≡ true → step_of c b st ≡ None → stopped n ≡ walk_of c s t
+  pub walk-stop : due b st.t t ≡ true → step_of c b st ≡ None → Err n ≡ walk_of c s t
   unfolding walk_of
   walk-stop d p =
       let l : number s.t + n < number t = walk_more d in
       let r : ℕ = number t - number s.t - suc n in
       let k : number t - number s.t ≡ n + suc r = omega arith in
       sym (ap₂ (λ (b : Bool) (k : ℕ). walk_by c s b k) w.way k
-      ∙ ap₂ (λ (m : ℕ) (o : MaybeState). counted (n + suc r) m o)
+      ∙ ap₂ (λ (m : ℕ) (o : Option ResonanceState). counted (n + suc r) m o)
       (made-on c b n (suc r) s st w.made ∙ ap (λ (i : ℕ). n + i) (first_made r) ∙ add-zero n)
       (steps_on c b n (suc r) s st w.made ∙ first r))
     where
       first : (r : ℕ) → steps c b (suc r) st ≡ None
-      first r = unfold steps in ap (λ (o : MaybeState). and_then o (λ (x : ResonanceState). steps c b r x)) p
+      first r = unfold steps in ap (λ (o : Option ResonanceState). option_and_then (λ (x : ResonanceState). steps c b r x) o) p
 
       first_made : (r : ℕ) → made c b (suc r) st ≡ 0
-      first_made r = unfold made in ap (λ (o : MaybeState). one_more o (λ (x : ResonanceState). made c b r x)) p
+      first_made r = unfold made in ap (λ (o : Option ResonanceState). one_more o (λ (x : ResonanceState). made c b r x)) p
 
-  pub walk_end : due b st.t t ≡ false → walked st n ≡ walk_of c s t
+  pub walk_end : due b st.t t ≡ false → Ok (walked st n) ≡ walk_of c s t
   unfolding walk_of
   walk_end d =
       let l : number t ≤ number s.t + n = ltb-false (number s.t + n) (number t) (sym walk-due ∙ d) in
       let m : number s.t + n ≤ number t = w.most in
       let k : number t - number s.t ≡ n = omega arith in
-      sym (ap₂ (λ (b : Bool) (k : ℕ). walk_by c s b k) w.way k ∙ ap (λ (o : MaybeState). counted n (made c b n s) o) w.made)
+      sym (ap₂ (λ (b : Bool) (k : ℕ). walk_by c s b k) w.way k ∙ ap (λ (o : Option ResonanceState). counted n (made c b n s) o) w.made)
 
 -- ---- the stepping of an ask: refused by the two times, or by the loop's answer
-pub advance-refused : (c : Integrator) (s : ResonanceState) (t : Float) (f : Fault) → refusal s.t t ≡ refused f → Refused f s ≡ advance_of c s t
+pub advance-refused : (c : Integrator) (s : ResonanceState) (t : Float) (f : Fault) → refusal s.t t ≡ Err f → Err (refused_with f s) ≡ advance_of c s t
 unfolding advance_of plan
-advance-refused c s t f p = sym (ap (λ (r : Checked). carried_out c s (planned r (back t) (number t - number s.t))) p)
+advance-refused c s t f p = sym (ap (λ (r : Result (Unit {0}) Fault). carried_out c s (planned r (back t) (number t - number s.t))) p)
 
-pub advance-go : (c : Integrator) (s : ResonanceState) (t : Float) → refusal s.t t ≡ Passed
+pub advance-go : (c : Integrator) (s : ResonanceState) (t : Float) → refusal s.t t ≡ Ok tt
     → advance_of c s t ≡ taken s (number t - number s.t) (steps c (back t) (number t - number s.t) s)
 unfolding advance_of plan
-advance-go c s t p = ap (λ (r : Checked). carried_out c s (planned r (back t) (number t - number s.t))) p
+advance-go c s t p = ap (λ (r : Result (Unit {0}) Fault). carried_out c s (planned r (back t) (number t - number s.t))) p
 
-abbrev pub advance_from : ResonanceState → Walked → Advanced
-advance_from s (walked n k) = At n k
-advance_from s (stopped m) = Refused RatesRefused s
-
-pub advance-walk : (c : Integrator) (s : ResonanceState) (t : Float) → refusal s.t t ≡ Passed → advance_from s (walk_of c s t) ≡ advance_of c s t
+pub advance-walk : (c : Integrator) (s : ResonanceState) (t : Float) → refusal s.t t ≡ Ok tt → result_or (walk_of c s t) (Err (refused_with RatesRefused s)) ≡ advance_of c s t
 unfolding walk_of
 advance-walk c s t p = go (number t - number s.t) (made c (back t) (number t - number s.t) s) (steps c (back t) (number t - number s.t) s) ∙ sym (advance-go c s t p)
   where
-    go : (k m : ℕ) (o : MaybeState) → advance_from s (counted k m o) ≡ taken s k o
+    go : (k m : ℕ) (o : Option ResonanceState) → result_or (counted k m o) (Err (refused_with RatesRefused s)) ≡ taken s k o
     go k m None = refl
     go k m (Some n) = refl
 
@@ -129,19 +120,19 @@ not-shorter nan = refl
 not-shorter (inf s) = refl
 not-shorter (fin s m e) = le-ltb (m * up e * 1) (0 * down e) (le_trans (le_of_eq (zero-mul (down e))) zero-le)
 
-pub fresh-asked : (x : Float) → placed x ≡ true → refusal zero_time x ≡ Passed
+pub fresh-asked : (x : Float) → placed x ≡ true → refusal zero_time x ≡ Ok tt
 unfolding refusal
 fresh-asked x q =
     let p : T (placed x) = subst T (sym q) tt in
     let near : T (at_most limit x) = and_r (multiple x) (at_most limit x) (and_l (multiple x && at_most limit x) (not (negative x && is_zero x)) p) in
     rw (is_true (finite x) (placed-finite x p), is_true (at_most limit x) near, not-shorter x)
 
-abbrev pub replay_from : ResonanceState → Walked → Replayed
-replay_from z (walked s k) = record { same = same_state s z; steps = k }
-replay_from z (stopped m) = record { same = false; steps = m }
+abbrev pub replay_from : ResonanceState → Result Walked ℕ → Result ℕ ℕ
+replay_from z (Ok w) = cond (same_state w.state z) (Ok w.steps) (Err w.steps)
+replay_from z (Err m) = Err m
 
 module _ (c : Integrator) (n l : Float) (z : ResonanceState) where
-  pub replay-not : placed z.t ≡ false → record { same = false; steps = 0 } ≡ replay_of c n l z
+  pub replay-not : placed z.t ≡ false → Err 0 ≡ replay_of c n l z
   unfolding replay_of
   replay-not p = rw p
 
@@ -152,7 +143,7 @@ module _ (c : Integrator) (n l : Float) (z : ResonanceState) where
       let b = back z.t in
       rw p (ap (λ (k : ℕ). replay_from z (walk_by c f b k)) (sub-zero (number z.t)) ∙ go (number z.t) (steps c b (number z.t) f) refl)
     where
-      go : (k : ℕ) (o : MaybeState) → steps c (back z.t) k (fresh_of n l) ≡ o
-          → replay_from z (counted k (made c (back z.t) k (fresh_of n l)) o) ≡ record { same = agrees z o; steps = made c (back z.t) k (fresh_of n l) }
+      go : (k : ℕ) (o : Option ResonanceState) → steps c (back z.t) k (fresh_of n l) ≡ o
+          → replay_from z (counted k (made c (back z.t) k (fresh_of n l)) o) ≡ cond (agrees z o) (Ok (made c (back z.t) k (fresh_of n l))) (Err (made c (back z.t) k (fresh_of n l)))
       go k None e = refl
-      go k (Some s) e = ap (λ (i : ℕ). record { same = same_state s z; steps = i }) (sym (made_all c (back z.t) k (fresh_of n l) s e))
+      go k (Some s) e = ap (λ (i : ℕ). cond (same_state s z) (Ok i) (Err i)) (sym (made_all c (back z.t) k (fresh_of n l) s e))

@@ -1,7 +1,7 @@
 // The state of the resonance integrator and its step: `ResonanceState` of deep_space.rs, by value.
 ghost use Rattle.std.specs.Prelude.{◌≡◌};
 ghost use Rattle.resonance.specs.Rates.{rates_of};
-ghost use Rattle.resonance.specs.State.{fresh_of, fresh, time_and_state, finite_state, same_state, moved_by, step_of, placed_step, stepped};
+ghost use Rattle.resonance.specs.State.{fresh_of, fresh, finite_state, same_state, moved_by, step_of, refused_with, placed_step, stepped};
 
 use floats::finite::{bits_of, is_finite};
 use orbit::propagator::{Constants, Resonance, Resonant};
@@ -12,37 +12,23 @@ use times::time::{Fault, delta_t, is_placed};
 const HALF_DELTA_T_SQUARED: f64 = 259200.0;
 
 // The integrator's time in min since epoch, nᵢ in rad.min⁻¹ and λᵢ in rad.
-#[derive(Clone, Copy)]
+#[derive(Clone, Copy, Debug, PartialEq)]
 pub struct ResonanceState {
     pub t: f64,
     pub mean_motion: f64,
     pub lambda: f64,
 }
 
-// None or a state: the Rust's `Option<&mut ResonanceState>`.
-#[derive(Clone, Copy)]
-pub enum MaybeState {
-    None,
-    Some(ResonanceState),
-}
-
-// A state's time, and the state handed back.
-#[derive(Clone, Copy)]
-pub struct TimeAndState {
-    pub time: f64,
+// Why a step or a stepping is refused, and the state handed back.
+#[derive(Clone, Copy, Debug, PartialEq)]
+pub struct Refused {
+    pub fault: Fault,
     pub state: ResonanceState,
-}
-
-// The answer of one step. A refusal hands the state back.
-#[derive(Clone, Copy)]
-pub enum Stepped {
-    To(ResonanceState),
-    Refused { fault: Fault, state: ResonanceState },
 }
 
 impl ResonanceState {
     // The fresh state of n₀ in rad.min⁻¹ and λ₀ in rad.
-    pub fn new(mean_motion_0: f64, lambda_0: f64) -> ResonanceState
+    pub fn new(mean_motion_0: f64, lambda_0: f64) -> Self
         ensures { result ≡ fresh_of mean_motion_0 lambda_0 }
     {
         ResonanceState {
@@ -53,13 +39,10 @@ impl ResonanceState {
     }
 
     // The integrator's time in min since epoch: the Rust's `t`.
-    pub fn time(self) -> TimeAndState
-        ensures { result ≡ time_and_state self }
+    pub fn time(self) -> f64
+        ensures { result ≡ self.t }
     {
-        TimeAndState {
-            time: self.t,
-            state: self,
-        }
+        self.t
     }
 
     // Whether time, mean motion and longitude are finite.
@@ -69,7 +52,8 @@ impl ResonanceState {
         is_finite(self.t) & is_finite(self.mean_motion) & is_finite(self.lambda)
     }
 
-    // Whether two states agree in every bit.
+    // Whether two states agree in every bit. (The derived `==` goes by value: it takes -0.0 for 0.0,
+    // and a NaN for no other.)
     pub fn is_same(self, other: ResonanceState) -> bool
         ensures { result ≡ same_state self other }
     {
@@ -79,13 +63,13 @@ impl ResonanceState {
     }
 
     // The rates of this state.
-    pub fn rates(self, c: Integrator) -> Rates
+    #[tactic(auto, unfolding(crate::specs::Rates::rates_of))]
+    pub fn rates(self, c: Integrator) -> Option<Rates>
         ensures { result ≡ rates_of c self }
     {
         // λ̇ᵢ = nᵢ + λ̇₀
         let lambda_dot = self.mean_motion + c.lambda_dot_0;
-        let resonance = c.resonance;
-        match resonance {
+        match c.resonance {
             Resonance::OneDay { dr1, dr2, dr3 } => one_day(self.lambda, lambda_dot, dr1, dr2, dr3),
             Resonance::HalfDay {
                 d2201,
@@ -123,114 +107,90 @@ impl ResonanceState {
 
     // tᵢ₊₁ = tᵢ + Δt, nᵢ₊₁ = nᵢ + (ṅᵢ Δt + n̈ᵢ (Δt² / 2)), λᵢ₊₁ = λᵢ + (λ̇ᵢ Δt + ṅᵢ (Δt² / 2)), where all
     // three are finite.
-    fn moved(self, delta_t: f64, ni_dot: f64, ni_ddot: f64, lambda_dot: f64) -> MaybeState
-        ensures { result ≡ moved_by self delta_t ni_dot ni_ddot lambda_dot }
+    fn moved(self, delta_t: f64, rates: Rates) -> Option<ResonanceState>
+        ensures { result ≡ moved_by self delta_t rates }
     {
         let next = ResonanceState {
             t: self.t + delta_t,
-            mean_motion: self.mean_motion + (ni_dot * delta_t + ni_ddot * HALF_DELTA_T_SQUARED),
-            lambda: self.lambda + (lambda_dot * delta_t + ni_dot * HALF_DELTA_T_SQUARED),
+            mean_motion: self.mean_motion
+                + (rates.ni_dot * delta_t + rates.ni_ddot * HALF_DELTA_T_SQUARED),
+            lambda: self.lambda
+                + (rates.lambda_dot * delta_t + rates.ni_dot * HALF_DELTA_T_SQUARED),
         };
-        if next.is_finite() {
-            return MaybeState::Some(next);
-        }
-        MaybeState::None
+        next.is_finite().then_some(next)
     }
 
     // The state one step on, or none where 8 arises.
-    pub fn next(self, c: Integrator, back: bool) -> MaybeState
+    #[tactic(auto, unfolding(crate::specs::State::step_of))]
+    pub fn next(self, c: Integrator, back: bool) -> Option<ResonanceState>
         ensures { result ≡ step_of c back self }
     {
-        match self.rates(c) {
-            Rates::Of {
-                ni_dot,
-                ni_ddot,
-                lambda_dot,
-            } => self.moved(delta_t(back), ni_dot, ni_ddot, lambda_dot),
-            Rates::Refused => MaybeState::None,
-        }
+        self.moved(delta_t(back), self.rates(c)?)
+    }
+
+    // A refusal that hands this state back.
+    pub(crate) fn refused(self, fault: Fault) -> Refused
+        ensures { result ≡ refused_with fault self }
+    {
+        Refused { fault, state: self }
     }
 
     // One step of 720 min, forward or back: refusals 3, 4, 6 and 8, in this order.
-    pub fn step(self, constants: Constants, back: bool) -> Stepped
+    #[tactic(auto, unfolding(crate::specs::State::stepped))]
+    pub fn step(self, constants: Constants, back: bool) -> Result<ResonanceState, Refused>
         ensures { result ≡ stepped constants back self }
     {
         if !(constants.is_finite() & self.is_finite()) {
-            return Stepped::Refused {
-                fault: Fault::NumberNotFinite,
-                state: self,
-            };
+            return Err(self.refused(Fault::NumberNotFinite));
         }
-        let resonant = constants.resonant;
-        match resonant {
-            Resonant::No { a0: _ } => Stepped::Refused {
-                fault: Fault::OrbitNonResonant,
-                state: self,
-            },
-            Resonant::Yes {
-                lambda_0: _,
-                lambda_dot_0,
-                sidereal_time_0: _,
-                resonance,
-            } => {
-                let c = Integrator {
-                    argument_of_perigee_0: constants.orbit_0.argument_of_perigee,
-                    lambda_dot_0,
-                    resonance,
-                };
-                self.placed_step(c, back)
-            }
-        }
+        let Resonant::Yes {
+            lambda_dot_0,
+            resonance,
+            ..
+        } = constants.resonant
+        else {
+            return Err(self.refused(Fault::OrbitNonResonant));
+        };
+        let c = Integrator {
+            argument_of_perigee_0: constants.orbit_0.argument_of_perigee,
+            lambda_dot_0,
+            resonance,
+        };
+        self.placed_step(c, back)
     }
 
     // One step, where the state stands at a time that it may have.
-    fn placed_step(self, c: Integrator, back: bool) -> Stepped
+    #[tactic(auto, unfolding(crate::specs::State::placed_step))]
+    fn placed_step(self, c: Integrator, back: bool) -> Result<ResonanceState, Refused>
         ensures { result ≡ placed_step c back self }
     {
         if !is_placed(self.t) {
-            return Stepped::Refused {
-                fault: Fault::StateMisplaced,
-                state: self,
-            };
+            return Err(self.refused(Fault::StateMisplaced));
         }
-        match self.next(c, back) {
-            MaybeState::Some(next) => Stepped::To(next),
-            MaybeState::None => Stepped::Refused {
-                fault: Fault::RatesRefused,
-                state: self,
-            },
-        }
+        self.next(c, back).ok_or(self.refused(Fault::RatesRefused))
     }
 
     // The fresh state of the constants, whatever this one is.
-    pub fn reset(self, constants: Constants) -> MaybeState
+    pub fn reset(self, constants: Constants) -> Option<ResonanceState>
         ensures { result ≡ fresh constants }
     {
-        MaybeState::Some(self).reset(constants)
+        reset(Some(self), constants)
     }
 }
 
-impl MaybeState {
-    // The fresh state of the constants, whatever this one is.
-    pub fn reset(self, constants: Constants) -> MaybeState
-        ensures { result ≡ fresh constants }
-    {
-        initial_state(constants)
-    }
+// The fresh state of the constants, whatever the state is, or whether there is one.
+pub fn reset(_state: Option<ResonanceState>, constants: Constants) -> Option<ResonanceState>
+    ensures { result ≡ fresh constants }
+{
+    initial_state(constants)
 }
 
 // The fresh state of a resonant orbit, and none of any other: the Rust's `Constants::initial_state`.
-pub fn initial_state(constants: Constants) -> MaybeState
+pub fn initial_state(constants: Constants) -> Option<ResonanceState>
     ensures { result ≡ fresh constants }
 {
-    let resonant = constants.resonant;
-    match resonant {
-        Resonant::No { a0: _ } => MaybeState::None,
-        Resonant::Yes {
-            lambda_0,
-            lambda_dot_0: _,
-            sidereal_time_0: _,
-            resonance: _,
-        } => MaybeState::Some(ResonanceState::new(constants.orbit_0.mean_motion, lambda_0)),
-    }
+    let Resonant::Yes { lambda_0, .. } = constants.resonant else {
+        return None;
+    };
+    Some(ResonanceState::new(constants.orbit_0.mean_motion, lambda_0))
 }

@@ -1,27 +1,54 @@
 // Asks and saves of a satellite of a store, and a store to try them on.
-use crate::answer::{is_refused, put_answer};
-use crate::files::{fail, make, name_beside, replace};
+use crate::answer::{elements_of, put_elements};
+use crate::files::{fail, fail_beside, make, swap};
 use crate::question::at_time;
-use crate::records::{put_record, put_state, put_time, refuse_file, tell_long};
-use crate::refusals::saved_size;
-use crate::say::{ERR, OUT, Streams, part, put, refuse, span};
-use crate::sets::{italsat, molniya, navstar};
-use constants::build::Built;
-use contents::find::{Found, find};
+use crate::records::{Good, Minutes, State, body_of, refuse_file, tell_long};
+use crate::say::{ERR, OUT, Streams, put, refuse};
+use crate::sets::{ITALSAT, MOLNIYA, NAVSTAR, Set};
+use body::examine::Record;
+use contents::find::find;
 use controller::{Controller, Reply, Resumed};
 use elements::elements::Question;
 use orbit::propagator::Constants;
 use record::constants_of;
 use std::io;
 use std::rt::Files;
+use store::restore::RestoreError;
 
-// A satellite and a question. Where `angles` is false only its time is asked for, and the rest follows
-// from the satellite's constants.
+// The longest path that has a file beside it: with .new behind it the system still takes it.
+const LONGEST: usize = 4091;
+
+// A store without records.
+pub const EMPTY: &[u8] = b"ORBT\x01\x00\x00\x00";
+
+// What is asked of a satellite: a time, whose angles follow from the satellite's constants, or a whole
+// question.
+#[derive(Clone, Copy)]
+pub enum Asked {
+    Time(f64),
+    Whole(Question),
+}
+
 #[derive(Clone, Copy)]
 pub struct Order {
     pub satellite: u32,
-    pub angles: bool,
-    pub q: Question,
+    pub asked: Asked,
+}
+
+impl Asked {
+    fn t(self) -> f64 {
+        match self {
+            Asked::Time(t) => t,
+            Asked::Whole(q) => q.t,
+        }
+    }
+
+    fn question(self, c: Constants) -> Question {
+        match self {
+            Asked::Time(t) => at_time(c, t),
+            Asked::Whole(q) => q,
+        }
+    }
 }
 
 // A controller that has no orbit yet: a restore brings one.
@@ -30,102 +57,92 @@ fn idle() -> Controller {
 }
 
 fn tell_replay(rt: &impl Streams, file: &[u8], satellite: u32) {
-    if let Found::Body(offset, size) = find(file, satellite) {
-        tell_long(rt, satellite, span(file, offset, size));
+    if let Ok(span) = find(file, satellite) {
+        tell_long(rt, satellite, body_of(file, span));
     }
 }
 
-// Says why a restore is refused, and answers whether it is.
-fn is_restore_refused(rt: &impl Streams, file: &[u8], number: u32) -> bool {
-    if number == 0 {
-        return false;
+// A satellite restored from a store; none where that is refused, and then it says why.
+fn restored(rt: &impl Streams, file: &[u8], satellite: u32) -> Option<Resumed> {
+    tell_replay(rt, file, satellite);
+    let r = idle().restore(file, satellite);
+    match r.answer {
+        Ok(()) => return Some(r),
+        Err(RestoreError::FileWrong) => refuse_file(rt, file),
+        Err(error) => refuse(rt, error.number()),
     }
-    if number == 14 {
-        refuse_file(rt, file);
-        return true;
-    }
-    refuse(rt, number);
-    true
+    None
 }
 
-fn question_of(c: Constants, order: Order) -> Question {
-    let q = order.q;
-    if order.angles {
-        return q;
-    }
-    at_time(c, q.t)
-}
-
-fn put_resumed(rt: &impl Streams, r: Resumed) {
+fn ask_restored(rt: &impl Streams, r: Resumed, asked: Asked) -> Reply {
     let controller = r.controller;
-    put(rt, OUT, b"restored: ");
-    put_record(rt, controller.constants(), controller.state(), r.steps);
+    let constants = controller.constants();
+    let record = Record {
+        constants,
+        state: controller.state(),
+        steps: r.steps,
+    };
+    put(rt, OUT, format_args!("restored: {}\n", Good(record)));
+    controller.ask(asked.question(constants))
 }
 
 fn put_moved(rt: &impl Streams, t: f64, reply: Reply) {
     let controller = reply.controller;
-    put(rt, OUT, b"asked at ");
-    put_time(rt, t);
-    put(rt, OUT, b": ");
-    put_state(rt, controller.state(), reply.steps);
-    put(rt, OUT, b"\n");
-}
-
-fn restored(rt: &impl Streams, file: &[u8], satellite: u32) -> Resumed {
-    tell_replay(rt, file, satellite);
-    idle().restore(file, satellite)
-}
-
-fn asked(rt: &impl Streams, r: Resumed, order: Order) -> Reply {
-    put_resumed(rt, r);
-    let controller = r.controller;
-    controller.ask(question_of(controller.constants(), order))
+    let state = State {
+        state: controller.state(),
+        steps: reply.steps,
+    };
+    put(rt, OUT, format_args!("asked at {}: {state}\n", Minutes(t)));
 }
 
 // The elements of a satellite at a time.
 pub fn ask(rt: &impl Streams, file: &[u8], order: Order) {
-    let r = restored(rt, file, order.satellite);
-    let restoring = r.answer;
-    if is_restore_refused(rt, file, restoring.number()) {
+    let Some(r) = restored(rt, file, order.satellite) else {
         return;
+    };
+    let reply = ask_restored(rt, r, order.asked);
+    if let Some(e) = elements_of(rt, reply.answer) {
+        put_moved(rt, order.asked.t(), reply);
+        put_elements(rt, e);
     }
-    let reply = asked(rt, r, order);
-    let answer = reply.answer;
-    if is_refused(rt, answer) {
-        return;
-    }
-    put_moved(rt, order.q.t, reply);
-    put_answer(rt, answer);
 }
 
 fn put_saved(rt: &impl Streams, path: &str) {
-    put(rt, OUT, b"saved into ");
-    put(rt, OUT, path.as_bytes());
-    put(rt, OUT, b"\n");
+    put(rt, OUT, format_args!("saved into {path}\n"));
 }
 
 fn put_unchanged(rt: &impl Streams) {
-    put(rt, ERR, b"station: the file is as it was\n");
+    put(rt, ERR, "station: the file is as it was\n");
 }
 
-// The new bytes take the place of the old file, by way of a file of this name.
-fn write_by<R: Streams + Files + Alloc>(rt: &R, path: &str, name: &str, bytes: &[u8]) {
-    if replace(rt, path, name, bytes) {
-        put_saved(rt, path);
-        return;
+// The new bytes take the place of the old file, by way of the file beside; or it says why not.
+fn is_replaced<R: Streams + Files>(rt: &R, path: &str, beside: &str, bytes: &[u8]) -> bool {
+    if let Err(why) = make(rt, beside, bytes) {
+        fail_beside(rt, beside, why);
+        return false;
     }
-    put_unchanged(rt);
+    if let Err(why) = swap(rt, path, beside) {
+        fail(rt, path.as_bytes(), why);
+        return false;
+    }
+    true
 }
 
 fn write_over<R: Streams + Files + Alloc>(rt: &R, path: &str, bytes: &[u8]) {
-    match name_beside(rt.alloc(), path) {
-        Ok(Some(name)) => write_by(rt, path, name.as_str(), bytes),
-        Ok(None) => put(rt, ERR, b"station: the name of the file is too long\n"),
-        Err(e) => {
-            fail(rt, path.as_bytes(), io::Error::from(e));
-            put_unchanged(rt);
-        }
+    if path.len() > LONGEST {
+        put(rt, ERR, "station: the name of the file is too long\n");
+        return;
     }
+    match format!(in rt.alloc(); "{path}.new") {
+        Ok(beside) => {
+            if is_replaced(rt, path, beside.as_str(), bytes) {
+                put_saved(rt, path);
+                return;
+            }
+        }
+        Err(why) => fail(rt, path.as_bytes(), io::Error::from(why)),
+    }
+    put_unchanged(rt);
 }
 
 fn save_moved<R: Streams + Files + Alloc>(
@@ -136,60 +153,59 @@ fn save_moved<R: Streams + Files + Alloc>(
     controller: Controller,
 ) {
     let mut room = [0u8; 65536];
-    let stored = controller.save(file, &mut room, satellite);
-    let number = stored.number();
-    if number != 0 {
-        refuse(rt, number);
-        put_unchanged(rt);
-        return;
+    match controller.save(file, &mut room, satellite) {
+        Ok(size) => write_over(rt, path, &room[..size.min(room.len())]),
+        Err(error) => {
+            refuse(rt, error.number());
+            put_unchanged(rt);
+        }
     }
-    write_over(rt, path, part(&room, 0, saved_size(stored)));
 }
 
 // Moves a satellite of a store to a time. Where the ask is refused the file stays as it is, though
 // refusals 9 to 12 have moved the state.
 pub fn save<R: Streams + Files + Alloc>(rt: &R, path: &str, file: &[u8], order: Order) {
-    let r = restored(rt, file, order.satellite);
-    let restoring = r.answer;
-    if is_restore_refused(rt, file, restoring.number()) {
+    let Some(r) = restored(rt, file, order.satellite) else {
         return;
-    }
-    let reply = asked(rt, r, order);
-    let answer = reply.answer;
-    if is_refused(rt, answer) {
+    };
+    let reply = ask_restored(rt, r, order.asked);
+    if elements_of(rt, reply.answer).is_none() {
         put_unchanged(rt);
         return;
     }
-    put_moved(rt, order.q.t, reply);
-    let moved = reply.controller;
-    save_moved(rt, path, file, order.satellite, moved);
+    put_moved(rt, order.asked.t(), reply);
+    save_moved(rt, path, file, order.satellite, reply.controller);
 }
 
-// The file with a fresh record of an orbit more: its length, or 0 where it is refused.
-fn add(file: &[u8], out: &mut [u8], satellite: u32, built: Built) -> usize {
-    let Built::Of(c) = built else {
-        return 0;
-    };
-    saved_size(Controller::start(c).save(file, out, satellite))
+// The file with a fresh record of an orbit more, in the room; none where it is refused.
+fn with_record<'a>(file: &[u8], room: &'a mut [u8], satellite: u32, set: Set) -> Option<&'a [u8]> {
+    let fresh = Controller::start(set.build().ok()?);
+    let size = fresh.save(file, room, satellite).ok()?;
+    room.get(..size)
 }
 
-// Makes a store of the three published orbits, fresh. A file that is there is left alone.
-pub fn example<R: Streams + Files + Alloc>(rt: &R, path: &str) {
+// A store of the three published orbits, fresh, in the room.
+fn published(room: &mut [u8]) -> Option<&[u8]> {
     let mut one = [0u8; 1024];
     let mut two = [0u8; 1024];
-    let mut three = [0u8; 1024];
-    let n = add(b"ORBT\x01\x00\x00\x00", &mut one, 8195, molniya());
-    let m = add(part(&one, 0, n), &mut two, 24208, italsat());
-    let k = add(part(&two, 0, m), &mut three, 28129, navstar());
-    if k == 0 {
+    let first = with_record(EMPTY, &mut one, 8195, MOLNIYA)?;
+    let second = with_record(first, &mut two, 24208, ITALSAT)?;
+    with_record(second, room, 28129, NAVSTAR)
+}
+
+// Makes a store of the three published orbits. A file that is there is left alone.
+pub fn example<R: Streams + Files>(rt: &R, path: &str) {
+    let mut room = [0u8; 1024];
+    let Some(bytes) = published(&mut room) else {
         put(
             rt,
             ERR,
-            b"station: the orbits that are built in cannot be saved\n",
+            "station: the orbits that are built in cannot be saved\n",
         );
         return;
-    }
-    if make(rt, path, false, part(&three, 0, k)) {
-        put_saved(rt, path);
+    };
+    match make(rt, path, bytes) {
+        Ok(()) => put_saved(rt, path),
+        Err(why) => fail(rt, path.as_bytes(), why),
     }
 }

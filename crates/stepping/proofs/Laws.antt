@@ -16,22 +16,19 @@ use borrow.Author.Tests.{ltb-true, ltb-false, lt-ltb, le-ltb, ne_eqb}
 use Rattle.floats.specs.Rounded.{◌⊕◌, ◌⊖◌}
 use Rattle.floats.proofs.Exact.{exact, fits-down, fits-num}
 use Rattle.times.specs.declared.time.Fault.{Fault}
-use Rattle.times.specs.declared.time.Fault.TheVariants.{RatesRefused}
-use Rattle.times.specs.declared.time.Checked.{Checked}
-use Rattle.times.specs.declared.time.Checked.TheVariants.{Passed, Refused as refused}
+use Rattle.std.specs.Option.{option_and_then}
+use Rattle.std.specs.Prelude.{Option, Some, None, Result, Ok, Err}
 use Rattle.rates.specs.declared.Integrator.{Integrator}
 use Rattle.resonance.specs.declared.state.ResonanceState.{ResonanceState}
-use Rattle.resonance.specs.declared.state.MaybeState.{MaybeState}
-use Rattle.resonance.specs.declared.state.MaybeState.TheVariants.{None, Some}
-use Rattle.resonance.specs.declared.advance.Advanced.{Advanced}
-use Rattle.resonance.specs.declared.advance.Advanced.TheVariants.{At, Refused}
+use Rattle.resonance.specs.declared.state.Refused.{Refused}
+use Rattle.resonance.specs.declared.advance.Walked.{Walked}
 use Rattle.times.specs.Time.{limit, number, time_of, back, delta, refusal}
-use Rattle.resonance.specs.State.{fresh_of, step_of}
-use Rattle.resonance.specs.Advance.{and_then, steps, one_more, made, taken}
+use Rattle.resonance.specs.State.{fresh_of, step_of, refused_with}
+use Rattle.resonance.specs.Advance.{steps, one_more, made, walked, taken}
 use Rattle.stepping.specs.Laws.{ExactStep, ExactTest, ExactRest, Composed, Timed, AllMade, FirstRefused, Reported}
 use Rattle.times.proofs.Placed.{sign_of, sign-ahead, At as Stands, at_next, due-is, time-is}
 use Rattle.times.proofs.Accepted.{accepted-at, accepted-le, accepted-most, number-most, back-sign}
-use Rattle.resonance.proofs.Steps.{no-state, steps-compose, made_all, steps-place, steps-keep, step_fits}
+use Rattle.resonance.proofs.Steps.{steps-compose, made_all, steps-place, steps-keep, step_fits}
 use Rattle.resonance.proofs.Walk.{advance-go, advance-refused}
 
 -- ---- exactness
@@ -174,7 +171,7 @@ all_made = made_all
 
 pub first-refused : FirstRefused
 unfolding steps made
-first-refused c b zero s p = no-state s (sym p)
+first-refused c b zero s p = cc
 first-refused c b (suc k) s p = turn (step_of c b s) refl (λ (x : ResonanceState). first-refused c b k x) p
   where
     Ends : (k m : ℕ) (s : ResonanceState) → Type 0
@@ -183,22 +180,18 @@ first-refused c b (suc k) s p = turn (step_of c b s) refl (λ (x : ResonanceStat
     up_one : (m k : ℕ) → m < k → suc m < suc k
     up_one m k h = omega arith
 
-    turn : (o : MaybeState) → step_of c b s ≡ o → ((x : ResonanceState) → steps c b k x ≡ None → Ends k (made c b k x) x) → and_then o (λ (x : ResonanceState). steps c b k x) ≡ None
+    turn : (o : Option ResonanceState) → step_of c b s ≡ o → ((x : ResonanceState) → steps c b k x ≡ None → Ends k (made c b k x) x) → option_and_then (λ (x : ResonanceState). steps c b k x) o ≡ None
         → Ends (suc k) (one_more o (λ (x : ResonanceState). made c b k x)) s
-    turn None e ih q = (omega arith, λ (z : Some s ≡ None). no-state s (sym z), ap (λ (o : MaybeState). and_then o (λ (x : ResonanceState). steps c b 0 x)) e)
+    turn None e ih q = (omega arith, λ (z : Some s ≡ None). cc, ap (λ (o : Option ResonanceState). option_and_then (λ (x : ResonanceState). steps c b 0 x) o) e)
     turn (Some x) e ih q =
         let m = made c b k x in
         let r = ih x q in
-        let on : (i : ℕ) → steps c b (suc i) s ≡ steps c b i x = λ (i : ℕ). ap (λ (o : MaybeState). and_then o (λ (y : ResonanceState). steps c b i y)) e in
+        let on : (i : ℕ) → steps c b (suc i) s ≡ steps c b i x = λ (i : ℕ). ap (λ (o : Option ResonanceState). option_and_then (λ (y : ResonanceState). steps c b i y) o) e in
         (up_one m k r.0, λ (z : steps c b (suc m) s ≡ None). r.1 (sym (on m) ∙ z), on (suc m) ∙ r.2)
 
 -- ---- the stepping of an ask
-not_at : (f : Fault) (s n : ResonanceState) (k : ℕ) {A : Type 0} → Refused f s ≡ At n k → A
-not_at f s n k p = absurd (subst is_refused p tt)
-  where
-    is_refused : Advanced → Type 0
-    is_refused (Refused f s) = Unit {0}
-    is_refused (At n k) = ⊥
+same_walked : (w v : Walked) → ◌≡◌ {A = Result Walked Refused} (Ok w) (Ok v) → w ≡ v
+same_walked w v q = cc
 
 pub reported : Reported
 reported c s t n k f p = by (refusal s.t t) refl
@@ -209,23 +202,21 @@ reported c s t n k f p = by (refusal s.t t) refl
     Says : ResonanceState → ℕ → Type 0
     Says n k = (number s.t ≤ number t) × (k ≡ number t - number s.t) × (n.t ≡ time_of (back t) (number t))
 
-    ends : refusal s.t t ≡ Passed → (o : MaybeState) → steps c (back t) K s ≡ o → taken s K o ≡ At n k → Says n k
-    ends r None e q = not_at RatesRefused s n k q
+    ends : refusal s.t t ≡ Ok tt → (o : Option ResonanceState) → steps c (back t) K s ≡ o → taken s K o ≡ Ok (walked n k) → Says n k
+    ends r None e q = cc
     ends r (Some x) e q =
-        let x-is : x ≡ n = first q in
+        let ends-is : walked x K ≡ walked n k = same_walked (walked x K) (walked n k) q in
+        let x-is : x ≡ n = ap (λ (w : Walked). w.state) ends-is in
         let le = accepted-le s.t t r in
         let on : number s.t + K ≡ number t = add-sub_of_le le in
         let most = accepted-most s.t t r in
         let e' : steps c (back t) K s ≡ Some n = e ∙ ap Some x-is in
         let place : Stands (back t) (number t) n.t = subst (λ (i : ℕ). Stands (back t) i n.t) on (steps-place c (back t) K (number s.t) s n (le_trans (le_of_eq on) most) (accepted-at s.t t r) e') in
-        (le, sym (second q), time-is (back t) (number t) n.t most (steps-fit c (back t) K s n f e') place)
+        (le, sym (ap (λ (w : Walked). w.steps) ends-is), time-is (back t) (number t) n.t most (steps-fit c (back t) K s n f e') place)
+
+    by : (r : Result (Unit {0}) Fault) → refusal s.t t ≡ r → Says n k
+    by (Ok _) e = ends e (steps c (back t) K s) refl (sym (advance-go c s t e) ∙ p)
+    by (Err g) e = no (advance-refused c s t g e ∙ p)
       where
-        first : At x K ≡ At n k → x ≡ n
-        first q = cc
-
-        second : At x K ≡ At n k → K ≡ k
-        second q = cc
-
-    by : (r : Checked) → refusal s.t t ≡ r → Says n k
-    by Passed e = ends e (steps c (back t) K s) refl (sym (advance-go c s t e) ∙ p)
-    by (refused g) e = not_at g s n k (advance-refused c s t g e ∙ p)
+        no : Err (refused_with g s) ≡ Ok (walked n k) → Says n k
+        no q = cc

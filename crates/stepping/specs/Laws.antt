@@ -1,6 +1,7 @@
 -- What is proved of the definitions, in proofs/Laws.antt: the operations on times are exact, steps compose, and the steps reported are those of the two times.
 -- Statements only. Assumes nothing.
-use Rattle.std.specs.Prelude.{ℕ, suc, ◌+◌, ◌-◌, ◌*◌, ◌%◌, ◌^◌, ◌≤◌, ◌<◌, ◌≡◌, Bool, ◌&&◌, ◌||◌, ℤ, T, ltb, eqb, Float}
+use Rattle.std.specs.Prelude.{ℕ, suc, ◌+◌, ◌-◌, ◌*◌, ◌%◌, ◌^◌, ◌≤◌, ◌<◌, ◌≡◌, Bool, ◌&&◌, ◌||◌, ℤ, T, ltb, eqb, Float, Some, None, Ok}
+use Rattle.std.specs.Option.{option_and_then}
 use Rattle.std.specs.Float.{fin, binary64}
 use Rattle.std.specs.Float.Ieee.{up, down, fits}
 use Rattle.std.specs.Float.Ieee.Exact.{HasValue}
@@ -8,11 +9,9 @@ use Rattle.floats.specs.Rounded.{◌⊕◌, ◌⊖◌}
 use Rattle.floats.specs.Value.{at_most}
 use Rattle.rates.specs.declared.Integrator.{Integrator}
 use Rattle.resonance.specs.declared.state.ResonanceState.{ResonanceState}
-use Rattle.resonance.specs.declared.state.MaybeState.TheVariants.{None, Some}
-use Rattle.resonance.specs.declared.advance.Advanced.TheVariants.{At}
 use Rattle.times.specs.Time.{limit, number, time_of, back, delta, due}
 use Rattle.resonance.specs.State.{fresh_of}
-use Rattle.resonance.specs.Advance.{and_then, steps, made, advance_of}
+use Rattle.resonance.specs.Advance.{steps, made, walked, advance_of}
 
 -- ---- exactness
 
@@ -35,7 +34,7 @@ ExactRest = (s : Bool) (m : ℕ) (e : ℤ) → T (fits binary64 (fin s m e)) →
 
 -- j + k steps are k steps after j
 abbrev pub Composed : Type 0
-Composed = (c : Integrator) (b : Bool) (j k : ℕ) (s : ResonanceState) → steps c b (j + k) s ≡ and_then (steps c b j s) (λ (n : ResonanceState). steps c b k n)
+Composed = (c : Integrator) (b : Bool) (j k : ℕ) (s : ResonanceState) → steps c b (j + k) s ≡ option_and_then (λ (n : ResonanceState). steps c b k n) (steps c b j s)
 
 -- a state that k steps from a fresh one reach stands at the k-th time, bit for bit
 abbrev pub Timed : Type 0
@@ -52,5 +51,5 @@ FirstRefused = (c : Integrator) (b : Bool) (k : ℕ) (s : ResonanceState) → st
 
 -- ---- the stepping of an ask: its steps are t's number less that of the state's time, and it ends at the last multiple of 720 not beyond t, bit for bit
 abbrev pub Reported : Type 0
-Reported = (c : Integrator) (s : ResonanceState) (t : Float) (n : ResonanceState) (k : ℕ) → T (fits binary64 s.t) → advance_of c s t ≡ At n k
+Reported = (c : Integrator) (s : ResonanceState) (t : Float) (n : ResonanceState) (k : ℕ) → T (fits binary64 s.t) → advance_of c s t ≡ Ok (walked n k)
     → (number s.t ≤ number t) × (k ≡ number t - number s.t) × (n.t ≡ time_of (back t) (number t))

@@ -4,10 +4,11 @@ use lib.ListN.{length}
 use lib.Ieee.{Float}
 use Rattle.orbit.specs.declared.propagator.Resonant.TheVariants.{No}
 use Rattle.orbit.specs.declared.propagator.Constants.{Constants}
-use Rattle.resonance.specs.declared.state.MaybeState.TheVariants.{None}
 use Rattle.stepping.proofs.Examples.{examples}
 use Rattle.contents.specs.Examples.{empty}
-use Rattle.contents.specs.declared.save.Saved.{Saved}
+use Prim.Native.Nat.{ℕ}
+use Rattle.std.specs.Prelude.{Result, None}
+use Rattle.contents.specs.declared.save.SaveError.{SaveError}
 use Rattle.contents.proofs.Examples.{empty-file}
 use Rattle.body.specs.Body.{body_of}
 use Rattle.body.specs.Examine.{examined}
@@ -37,7 +38,7 @@ marked =
           file = empty-file.file (body_of c None) l;
           size = empty-file.size (body_of c None) l;
           written =
-              λ e. passed empty 7 c None 196 p ∙ ap (λ (r : Saved). of_examined (examined c None) (of_saved r)) (empty-file.written (body_of c None) l) ∙ simp e;
+              λ e. passed empty 7 c None 196 p ∙ ap (λ (r : Result ℕ SaveError). of_examined (examined c None) (of_saved r)) (empty-file.written (body_of c None) l) ∙ simp e;
           short =
-              λ e. passed empty 7 c None 195 p ∙ ap (λ (r : Saved). of_examined (examined c None) (of_saved r)) (empty-file.short (body_of c None) l) ∙ simp e;
+              λ e. passed empty 7 c None 195 p ∙ ap (λ (r : Result ℕ SaveError). of_examined (examined c None) (of_saved r)) (empty-file.short (body_of c None) l) ∙ simp e;
         }

@@ -1,44 +1,67 @@
 // A save: constants with none or a state, examined and written into a new file as one record.
-ghost use Rattle.std.specs.Prelude.{◌≡◌, length};
-ghost use Rattle.store.specs.Save.{number as stored_number, is_resonant as is_resonant_kind, is_given as is_given_state, of_saved, stored_file, stored, output_after};
+ghost use Rattle.std.specs.Prelude.{◌≡◌, length, Err};
+ghost use Rattle.store.specs.Save.{number as number_of_answer, is_resonant as is_resonant_kind, of_body, of_file, stored_file, stored, output_after};
 
 use body::bytes::{body_of, body_size};
-use body::examine::{Body, examine};
+use body::examine::{BodyError, examine};
 use contents::format::is_right;
-use contents::save::{Saved, save as save_body};
+use contents::save::{SaveError, save as save_body};
 use orbit::propagator::{Constants, Resonant};
-use resonance::state::MaybeState;
+use resonance::state::ResonanceState;
 
-// The answer of a save.
-#[derive(Clone, Copy)]
-pub enum Stored {
-    OrbitNonResonant, // refusal 4
-    NoState, // refusal 5
-    FileWrong, // refusal 14
-    BodyWrong, // refusal 16
-    NumberNotFinite, // refusal 17
-    StateWrong, // refusal 18
-    StoreFull, // refusal 20
-    OutputShort, // refusal 19
-    Written(usize), // the length of the new file
+// Why nothing is saved, by the refusal's number.
+#[derive(Clone, Copy, Debug, PartialEq, Eq)]
+pub enum StoreError {
+    OrbitNonResonant = 4,
+    NoState = 5,
+    FileWrong = 14,
+    BodyWrong = 16,
+    NumberNotFinite = 17,
+    StateWrong = 18,
+    StoreFull = 20,
+    OutputShort = 19,
 }
 
-impl Stored {
-    // The refusal's number, and 0 where the new file was written.
+impl StoreError {
+    // The refusal's number.
     pub fn number(self) -> u32
-        ensures { result ≡ stored_number self }
+        ensures { result ≡ number_of_answer (Err self) }
     {
-        match self {
-            Stored::OrbitNonResonant => 4,
-            Stored::NoState => 5,
-            Stored::FileWrong => 14,
-            Stored::BodyWrong => 16,
-            Stored::NumberNotFinite => 17,
-            Stored::StateWrong => 18,
-            Stored::StoreFull => 20,
-            Stored::OutputShort => 19,
-            Stored::Written(_) => 0,
+        self as u32
+    }
+}
+
+impl From<BodyError> for StoreError {
+    ghost from_gives = { λ e r. r ≡ of_body e };
+
+    fn from(e: BodyError) -> StoreError {
+        match e {
+            BodyError::Wrong => StoreError::BodyWrong,
+            BodyError::NumberNotFinite => StoreError::NumberNotFinite,
+            BodyError::StateWrong { .. } => StoreError::StateWrong,
         }
+    }
+}
+
+impl From<SaveError> for StoreError {
+    ghost from_gives = { λ e r. r ≡ of_file e };
+
+    fn from(e: SaveError) -> StoreError {
+        match e {
+            SaveError::FileWrong => StoreError::FileWrong,
+            SaveError::StoreFull => StoreError::StoreFull,
+            SaveError::OutputShort => StoreError::OutputShort,
+        }
+    }
+}
+
+// The number of a save's answer: the refusal's, and 0 where the new file was written.
+pub fn number(answer: Result<usize, StoreError>) -> u32
+    ensures { result ≡ number_of_answer answer }
+{
+    match answer {
+        Ok(_) => 0,
+        Err(e) => e.number(),
     }
 }
 
@@ -46,72 +69,35 @@ impl Stored {
 fn is_resonant(c: Constants) -> bool
     ensures { result ≡ is_resonant_kind c.resonant }
 {
-    let resonant = c.resonant;
-    match resonant {
-        Resonant::No { a0: _ } => false,
-        Resonant::Yes {
-            lambda_0: _,
-            lambda_dot_0: _,
-            sidereal_time_0: _,
-            resonance: _,
-        } => true,
-    }
+    matches!(c.resonant, Resonant::Yes { .. })
 }
 
-fn is_given(s: MaybeState) -> bool
-    ensures { result ≡ is_given_state s }
-{
-    match s {
-        MaybeState::None => false,
-        MaybeState::Some(_) => true,
-    }
-}
-
-// What the file's half of a save says, as the answer of the whole.
-fn of_saved(saved: Saved) -> Stored
-    ensures { result ≡ of_saved saved }
-{
-    match saved {
-        Saved::FileWrong => Stored::FileWrong,
-        Saved::StoreFull => Stored::StoreFull,
-        Saved::OutputShort => Stored::OutputShort,
-        Saved::Written(size) => Stored::Written(size),
-    }
-}
-
-// Writes the old file with the record of a satellite added or replaced into `out`.
+// Writes the old file with the record of a satellite added or replaced into `out`. Returns the length of the new file.
+#[tactic(auto, unfolding(crate::specs::Save::stored))]
 pub fn save(
     file: &[u8],
     out: &mut [u8],
     satellite: u32,
     constants: Constants,
-    state: MaybeState,
-) -> Stored
+    state: Option<ResonanceState>,
+) -> Result<usize, StoreError>
     ensures { (result ≡ stored file.now satellite constants state (length out.old))
         × (out.new ≡ output_after result (stored_file file.now satellite constants state) out.old) }
 {
     let resonant = is_resonant(constants);
-    let given = is_given(state);
+    let given = state.is_some();
     if given & !resonant {
-        return Stored::OrbitNonResonant;
+        return Err(StoreError::OrbitNonResonant);
     }
     if !given & resonant {
-        return Stored::NoState;
+        return Err(StoreError::NoState);
     }
     if !is_right(file) {
-        return Stored::FileWrong;
+        return Err(StoreError::FileWrong);
     }
-    match examine(constants, state) {
-        Body::Wrong => return Stored::BodyWrong,
-        Body::NumberNotFinite => return Stored::NumberNotFinite,
-        Body::StateWrong { steps: _ } => return Stored::StateWrong,
-        Body::Of {
-            constants: _,
-            state: _,
-            steps: _,
-        } => {}
-    }
+    examine(constants, state)?;
     let b = body_of(constants, state);
     let size = body_size(constants, state);
-    of_saved(save_body(file, out, satellite, &b[0..size]))
+    let written = save_body(file, out, satellite, &b[..size])?;
+    Ok(written)
 }

@@ -15,10 +15,8 @@ use borrow.Author.Tests.{lt-ltb, ne_eqb}
 use Rattle.times.proofs.Placed.{sign_of, At, placed-finite}
 use lib.Ieee.Scale.{finite}
 use Rattle.floats.specs.Value.{at_most, shorter}
-use Rattle.times.specs.declared.time.Fault.{Fault}
+use Rattle.std.specs.Prelude.{Ok, Err}
 use Rattle.times.specs.declared.time.Fault.TheVariants.{TimeNotFinite, TimeBeyondLimit, StateMisplaced, NotOnward}
-use Rattle.times.specs.declared.time.Checked.{Checked}
-use Rattle.times.specs.declared.time.Checked.TheVariants.{Passed, Refused}
 use Rattle.times.specs.Time.{limit, number, multiple, placed, same_way, not_earlier, onward, back, refusal}
 
 pub record Accepted (s t : Float) : Type 0 where
@@ -26,25 +24,17 @@ pub record Accepted (s t : Float) : Type 0 where
   pub set : T (placed s)
   pub fore : T (onward s t)
 
-pub accepted : (s t : Float) → refusal s t ≡ Passed → Accepted s t
+pub accepted : (s t : Float) → refusal s t ≡ Ok tt → Accepted s t
 unfolding refusal
 accepted s t p = go (finite t) (at_most limit t) (placed s) (onward s t) refl refl refl p
   where
-    -- a refusal is not a pass
-    not-passed : (f : Fault) {A : Type 0} → Refused f ≡ Passed → A
-    not-passed f q = absurd (subst is_refused q tt)
-      where
-        is_refused : Checked → Type 0
-        is_refused Passed = ⊥
-        is_refused (Refused f) = Unit {0}
-
     go : (a b c d : Bool) → at_most limit t ≡ b → placed s ≡ c → onward s t ≡ d
-        → cond a (cond b (cond c (cond d Passed (Refused NotOnward)) (Refused StateMisplaced)) (Refused TimeBeyondLimit)) (Refused TimeNotFinite) ≡ Passed → Accepted s t
+        → cond a (cond b (cond c (cond d (Ok (tt {0})) (Err NotOnward)) (Err StateMisplaced)) (Err TimeBeyondLimit)) (Err TimeNotFinite) ≡ Ok tt → Accepted s t
     go true true true true x y z q = record { near = subst T (sym x) tt; set = subst T (sym y) tt; fore = subst T (sym z) tt }
-    go true true true false x y z q = not-passed NotOnward q
-    go true true false d x y z q = not-passed StateMisplaced q
-    go true false c d x y z q = not-passed TimeBeyondLimit q
-    go false b c d x y z q = not-passed TimeNotFinite q
+    go true true true false x y z q = cc
+    go true true false d x y z q = cc
+    go true false c d x y z q = cc
+    go false b c d x y z q = cc
 
 pub near-finite : (t : Float) → T (at_most limit t) → T (finite t)
 near-finite nan h = h
@@ -122,11 +112,11 @@ at-start (fin a m e) (fin b n d) near set fore = (sign (m * up e / (720 * down e
         above i = omega arith
 
 -- what an accepted ask's numbers are
-pub accepted-at : (s t : Float) → refusal s t ≡ Passed → At (back t) (number s) s
+pub accepted-at : (s t : Float) → refusal s t ≡ Ok tt → At (back t) (number s) s
 accepted-at s t p = let a = accepted s t p in at-start s t a.near a.set a.fore
 
-pub accepted-le : (s t : Float) → refusal s t ≡ Passed → number s ≤ number t
+pub accepted-le : (s t : Float) → refusal s t ≡ Ok tt → number s ≤ number t
 accepted-le s t p = let a = accepted s t p in number-mono s t (placed-finite s a.set) (near-finite t a.near) (and_r (same_way s t) (not_earlier s t) a.fore)
 
-pub accepted-most : (s t : Float) → refusal s t ≡ Passed → number t ≤ 2 ^ 20
+pub accepted-most : (s t : Float) → refusal s t ≡ Ok tt → number t ≤ 2 ^ 20
 accepted-most s t p = number-most t (accepted s t p).near

@@ -1,2 +1,4 @@
+pub mod Compared
 pub mod Placed
 pub mod Accepted
+pub mod Sizes

@@ -16,7 +16,8 @@ use Rattle.floats.proofs.Values.{same-le, signed_le, le-values, zero_test}
 use Rattle.floats.proofs.Exact.{exact, Big, rounded-big, not-le-below, above-not-le, big-not-zero, fits-down, fits-num, is-zero, not-lt}
 use Rattle.floats.specs.Rounded.{◌⊕◌, dec}
 use Rattle.floats.specs.Value.{at_most, negative, is_zero}
-use Rattle.times.specs.declared.time.Ordering.TheVariants.{Less, Equal, Greater}
+use Rattle.std.specs.declared.cmp.Ordering.TheVariants.{Less, Equal, Greater}
+use Rattle.times.proofs.Compared.{and-comm}
 use Rattle.times.specs.Time.{limit, number, multiple, placed, back, ordering, goes_on, due, delta, time_of}
 
 -- ---- a multiple of 720, by the remainder
@@ -39,13 +40,7 @@ multiple-is (fin s m e) t = ap (λ (z : ℕ). eq (round binary64 s (z % (720 * d
 
 -- ---- -0.0, by a comparison with 0 and the sign bit
 pub minus-zero : (x : Float) (n : Bool) → n ≡ negative x → (eq x (fin false 0 (pos 0)) && n) ≡ (negative x && is_zero x)
-minus-zero x n p = ap₂ (λ (a b : Bool). a && b) (is-zero x) p ∙ swap (is_zero x) (negative x)
-  where
-    swap : (a b : Bool) → (a && b) ≡ (b && a)
-    swap true true = refl
-    swap true false = refl
-    swap false true = refl
-    swap false false = refl
+minus-zero x n p = ap₂ (λ (a b : Bool). a && b) (is-zero x) p ∙ and-comm (is_zero x) (negative x)
 
 pub placed-finite : (x : Float) → T (placed x) → T (finite x)
 placed-finite nan t = t

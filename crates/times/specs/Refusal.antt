@@ -1,9 +1,7 @@
 -- Document 01's number of each refusal. Definitions only. Assumes nothing.
-use Rattle.std.specs.Prelude.{ℕ}
+use Rattle.std.specs.Prelude.{ℕ, Result, Ok, Err}
 use Rattle.times.specs.declared.time.Fault.{Fault}
 use Rattle.times.specs.declared.time.Fault.TheVariants.{TimeNotFinite, TimeBeyondLimit, NumberNotFinite, OrbitNonResonant, NoState, StateMisplaced, NotOnward, RatesRefused}
-use Rattle.times.specs.declared.time.Checked.{Checked}
-use Rattle.times.specs.declared.time.Checked.TheVariants.{Passed, Refused as refusedCheck}
 
 abbrev pub number : Fault → ℕ
 number TimeNotFinite = 1
@@ -16,6 +14,6 @@ number NotOnward = 7
 number RatesRefused = 8
 
 -- of the check of two times: 0 where it passes
-abbrev pub of_check : Checked → ℕ
-of_check Passed = 0
-of_check (refusedCheck f) = number f
+abbrev pub of_check : Result (Unit {0}) Fault → ℕ
+of_check (Ok _) = 0
+of_check (Err f) = number f

@@ -1,18 +1,16 @@
 -- A time as a direction and a number of steps of 720 minutes: where a state may stand, what may be asked of it, and what an ask at a time plans. Definitions
 -- only. Assumes nothing.
-use Rattle.std.specs.Prelude.{ℕ, zero, suc, ◌-◌, ◌*◌, ◌/◌, ◌%◌, Bool, true, false, not, ◌&&◌, cond, ◌||◌, eqb, pos, Float}
+use Rattle.std.specs.Prelude.{ℕ, zero, suc, ◌-◌, ◌*◌, ◌/◌, ◌%◌, Bool, true, false, not, ◌&&◌, cond, ◌||◌, eqb, pos, Float, Result, Ok, Err}
 use Rattle.std.specs.Bool.{beq}
 use Rattle.std.specs.Float.{nan, inf, fin, binary64}
 use Rattle.std.specs.Float.Ieee.{up, down, round, lt}
 use Rattle.std.specs.Float.Ieee.Scale.{finite}
+use Rattle.std.specs.declared.cmp.Ordering.{Ordering}
+use Rattle.std.specs.declared.cmp.Ordering.TheVariants.{Less, Equal, Greater}
 use Rattle.floats.specs.Rounded.{◌⊖◌, ⊝◌, dec}
 use Rattle.floats.specs.Value.{negative, is_zero, at_most, shorter}
 use Rattle.times.specs.declared.time.Fault.{Fault}
 use Rattle.times.specs.declared.time.Fault.TheVariants.{TimeNotFinite, TimeBeyondLimit, StateMisplaced, NotOnward}
-use Rattle.times.specs.declared.time.Checked.{Checked}
-use Rattle.times.specs.declared.time.Checked.TheVariants.{Passed, Refused}
-use Rattle.times.specs.declared.time.Ordering.{Ordering}
-use Rattle.times.specs.declared.time.Ordering.TheVariants.{Less, Equal, Greater}
 
 -- 720·2^20 minutes
 abbrev pub limit : ℕ
@@ -62,17 +60,17 @@ abbrev pub onward : Float → Float → Bool
 onward s t = same_way s t && not_earlier s t
 
 -- the refusal of an ask at t, where the state's time is s, among those that the two times decide alone: in the table's order
-unfoldable pub refusal : Float → Float → Checked
+unfoldable pub refusal : Float → Float → Result (Unit {0}) Fault
 refusal s t =
     cond (finite t)
     (cond (at_most limit t)
     (cond (placed s)
     (cond (onward s t)
-    Passed
-    (Refused NotOnward))
-    (Refused StateMisplaced))
-    (Refused TimeBeyondLimit))
-    (Refused TimeNotFinite)
+    (Ok tt)
+    (Err NotOnward))
+    (Err StateMisplaced))
+    (Err TimeBeyondLimit))
+    (Err TimeNotFinite)
 
 -- ---- the plan of an ask
 
@@ -81,9 +79,9 @@ pub data Plan : Type 0 where
   refuse : Fault → Plan
   go : Bool → ℕ → Plan
 
-abbrev pub planned : Checked → Bool → ℕ → Plan
-planned Passed b k = go b k
-planned (Refused f) b k = refuse f
+abbrev pub planned : Result (Unit {0}) Fault → Bool → ℕ → Plan
+planned (Ok _) b k = go b k
+planned (Err f) b k = refuse f
 
 -- an ask at t of a state at s steps in t's direction, to the last multiple of 720 not beyond t
 unfoldable pub plan : Float → Float → Plan

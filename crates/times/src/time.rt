@@ -4,22 +4,23 @@ ghost use Rattle.std.specs.Prelude.{◌≡◌, T};
 ghost use Rattle.std.specs.Float.Ieee.Scale.{finite};
 ghost use Rattle.floats.specs.Value.{at_most};
 ghost use Rattle.times.specs.Refusal.{number as fault_number};
-ghost use Rattle.times.specs.Time.{limit, placed, same_way, not_earlier, refusal, ordering, delta, due};
+ghost use Rattle.times.specs.Time.{limit, placed, same_way, not_earlier, refusal, delta, due};
 
 use floats::finite::{is_finite, is_negative, magnitude};
 use floats::remainder::rem;
+use std::cmp::Ordering;
 
-// Why a call of the integrator is refused.
-#[derive(Clone, Copy)]
+// Why a call of the integrator is refused, by the refusal's number.
+#[derive(Clone, Copy, Debug, PartialEq, Eq)]
 pub enum Fault {
-    TimeNotFinite, // refusal 1
-    TimeBeyondLimit, // refusal 2
-    NumberNotFinite, // refusal 3
-    OrbitNonResonant, // refusal 4
-    NoState, // refusal 5
-    StateMisplaced, // refusal 6
-    NotOnward, // refusal 7
-    RatesRefused, // refusal 8
+    TimeNotFinite = 1,
+    TimeBeyondLimit = 2,
+    NumberNotFinite = 3,
+    OrbitNonResonant = 4,
+    NoState = 5,
+    StateMisplaced = 6,
+    NotOnward = 7,
+    RatesRefused = 8,
 }
 
 impl Fault {
@@ -27,38 +28,15 @@ impl Fault {
     pub fn number(self) -> u32
         ensures { result ≡ fault_number self }
     {
-        match self {
-            Fault::TimeNotFinite => 1,
-            Fault::TimeBeyondLimit => 2,
-            Fault::NumberNotFinite => 3,
-            Fault::OrbitNonResonant => 4,
-            Fault::NoState => 5,
-            Fault::StateMisplaced => 6,
-            Fault::NotOnward => 7,
-            Fault::RatesRefused => 8,
-        }
+        self as u32
     }
-}
-
-#[derive(Clone, Copy)]
-pub enum Checked {
-    Passed,
-    Refused(Fault),
-}
-
-// The order of two floats. A pair that has none, as with a NaN, counts as equal.
-#[derive(Clone, Copy)]
-pub enum Ordering {
-    Less,
-    Equal,
-    Greater,
 }
 
 // Whether x is at most 720·2^20 in size.
 pub fn is_within(x: f64) -> bool
     ensures { result ≡ at_most limit x }
 {
-    (x <= 754974720.0) & (x >= -754974720.0)
+    (-754974720.0..=754974720.0).contains(&x)
 }
 
 // Whether x is a state's time: a multiple of 720 within the limit, and not -0.0.
@@ -76,6 +54,7 @@ fn is_same_way(s: f64, t: f64) -> bool
 }
 
 // Whether |t| is not below the size of the state's time s.
+#[tactic(auto, using(crate::proofs::Sizes::sizes))]
 fn is_not_earlier(s: f64, t: f64) -> bool
     requires s_finite { T (finite s) }
     requires t_finite { T (finite t) }
@@ -85,35 +64,23 @@ fn is_not_earlier(s: f64, t: f64) -> bool
 }
 
 // The refusal among 1, 2, 6 and 7 of an ask at t, where the state's time is s.
-pub fn check_times(s: f64, t: f64) -> Checked
+#[tactic(auto, unfolding(crate::specs::Time::refusal))]
+pub fn check_times(s: f64, t: f64) -> Result<(), Fault>
     ensures { result ≡ refusal s t }
 {
     if !is_finite(t) {
-        return Checked::Refused(Fault::TimeNotFinite);
+        return Err(Fault::TimeNotFinite);
     }
     if !is_within(t) {
-        return Checked::Refused(Fault::TimeBeyondLimit);
+        return Err(Fault::TimeBeyondLimit);
     }
     if !is_placed(s) {
-        return Checked::Refused(Fault::StateMisplaced);
+        return Err(Fault::StateMisplaced);
     }
     if !(is_same_way(s, t) & is_not_earlier(s, t)) {
-        return Checked::Refused(Fault::NotOnward);
+        return Err(Fault::NotOnward);
     }
-    Checked::Passed
-}
-
-// How x compares with y: the Rust's `partial_cmp(..).unwrap_or(Equal)`.
-fn compare(x: f64, y: f64) -> Ordering
-    ensures { result ≡ ordering x y }
-{
-    if x < y {
-        return Ordering::Less;
-    }
-    if x > y {
-        return Ordering::Greater;
-    }
-    Ordering::Equal
+    Ok(())
 }
 
 // Δt: 720 min, or -720 min going back.
@@ -124,12 +91,15 @@ pub fn delta_t(back: bool) -> f64
 }
 
 // Whether an ask at t steps on from the time s: not where t - Δt is less than s, or greater going
-// back.
+// back. A pair that has no order, as with a NaN, counts as equal.
+#[tactic(auto, unfolding(crate::specs::Time::due), using(crate::proofs::Compared::ordering_is))]
 pub fn is_due(back: bool, s: f64, t: f64) -> bool
     ensures { result ≡ due back s t }
 {
-    let ordering = compare(t - delta_t(back), s);
-    match ordering {
+    match (t - delta_t(back))
+        .partial_cmp(&s)
+        .unwrap_or(Ordering::Equal)
+    {
         Ordering::Less => back,
         Ordering::Equal => true,
         Ordering::Greater => !back,

@@ -1,134 +1,80 @@
 // Records of lines that are read.
-ghost use Rattle.std.specs.Prelude.{◌≡◌, ◌≤◌, length};
-
-use crate::text::{byte, hex};
+use crate::text::{hex, numbers};
 use line::fields::Numbers;
-use line::read::{Reading, read};
-
-// Whether these are the eight numbers from column 2 of the record on.
-fn are_numbers(n: Numbers, line: &[u8]) -> bool {
-    if n.satellite as u64 != hex(line, 2, 10) {
-        return false;
-    }
-    if n.inclination as u64 != hex(line, 13, 10) {
-        return false;
-    }
-    if n.node as u64 != hex(line, 24, 10) {
-        return false;
-    }
-    if n.eccentricity as u64 != hex(line, 35, 10) {
-        return false;
-    }
-    if n.perigee as u64 != hex(line, 46, 10) {
-        return false;
-    }
-    if n.anomaly as u64 != hex(line, 57, 10) {
-        return false;
-    }
-    if n.mean_motion != hex(line, 68, 10) {
-        return false;
-    }
-    n.revolution as u64 == hex(line, 79, 10)
-}
+use line::read::{LineError, read};
 
 // r: eight numbers, and the line that is read as these.
 pub fn is_read(line: &[u8]) -> bool {
-    if line.len() < 90 {
-        return false;
-    }
-    match read(&line[90..]) {
-        Reading::Line(n) => are_numbers(n, line),
-        _ => false,
-    }
-}
-
-// The fault of an answer: its place in the order, and the column of a bad one.
-fn is_fault(r: Reading, number: u64, column: u64) -> bool {
-    match r {
-        Reading::BadColumn(k) => (number == 4) & (column == k as u64),
-        _ => (number == r.number() as u64) & (column == 0),
-    }
+    line.len() >= 90 && read(&line[90..]) == Ok(numbers(&line[2..89]))
 }
 
 // x: a fault, and the line that has it.
 pub fn is_refused(line: &[u8]) -> bool {
-    if line.len() < 7 {
+    let Some(text) = line.get(7..) else {
         return false;
-    }
-    let r = read(&line[7..]);
-    if r.number() == 0 {
+    };
+    let Err(error) = read(text) else {
         return false;
-    }
-    is_fault(r, hex(line, 2, 1), hex(line, 4, 2))
+    };
+    let column = match error {
+        LineError::BadColumn(k) => k as u64,
+        _ => 0,
+    };
+    hex(line, 2..3) == Some(u64::from(error.number())) && hex(line, 4..6) == Some(column)
 }
 
 // An answer as one byte: 0 for a line that is read, the fault's place, or for a bad column a letter, a for this one, b for the next.
-fn letter(r: Reading, column: usize) -> u8 {
-    match r {
-        Reading::BadColumn(k) => {
-            if k < column {
-                return b'?';
-            }
-            let past = k - column;
-            if past < 26 { b'a' + past as u8 } else { b'?' }
-        }
-        _ => {
-            let n = r.number();
-            if n < 10 { b'0' + n } else { b'?' }
-        }
+fn letter(answer: Result<Numbers, LineError>, column: usize) -> u8 {
+    match answer {
+        Ok(_) => b'0',
+        Err(LineError::BadColumn(k)) => match k.checked_sub(column) {
+            Some(past @ 0..26) => b'a' + past as u8,
+            _ => b'?',
+        },
+        Err(error) => b'0' + error.number(),
     }
 }
 
-// The line from byte 5 of a record on, with another byte in a column and this check digit.
-fn changed(line: &[u8], column: usize, b: u8, check: u8) -> [u8; 69]
-    requires { (1 ≤ column) × (column ≤ 69) }
-    ensures { 69 ≡ length result }
-{
-    let mut text = [0u8; 69];
-    let mut i = 0;
-    while i < 69 {
-        text[i] = byte(line, 5 + i);
-        i += 1;
+// Whether the line, with another byte in a column and this check digit, gives the answer. None does where there is no such column.
+fn gives(mut line: [u8; 69], column: usize, b: u8, check: u8, answer: u8) -> bool {
+    line[68] = check;
+    match column.checked_sub(1).and_then(|i| line.get_mut(i)) {
+        Some(there) => *there = b,
+        None => return false,
     }
-    text[68] = check;
-    text[column - 1] = b;
-    text
+    letter(read(&line), column) == answer
 }
 
 // c: a byte, a line, and the answers and check digits with the byte in each of the columns 1 to 68.
 pub fn in_columns(line: &[u8]) -> bool {
-    let b = hex(line, 2, 2);
-    if b > 255 {
+    let Ok(line) = <&[u8; 212]>::try_from(line) else {
         return false;
-    }
-    let mut k = 1;
-    while k < 69 {
-        let text = changed(line, k, b as u8, byte(line, 143 + k));
-        if letter(read(&text), k) != byte(line, 74 + k) {
-            return false;
-        }
-        k += 1;
-    }
-    line.len() == 212
+    };
+    let Some(Ok(b)) = hex(line, 2..4).map(u8::try_from) else {
+        return false;
+    };
+    let mut text = [0; 69];
+    text.copy_from_slice(&line[5..74]);
+    (1..69).zip(&line[75..143]).zip(&line[144..]).all(|((column, answer), check)| gives(
+        text, column, b, *check, *answer,
+    ))
 }
 
 // a: a column, a line, and the answers and check digits with each of the 256 bytes in the column.
 pub fn in_bytes(line: &[u8]) -> bool {
-    let column = hex(line, 2, 2);
-    if column > 69 {
+    let Ok(line) = <&[u8; 588]>::try_from(line) else {
         return false;
-    }
-    if column == 0 {
+    };
+    let Some(column) = hex(line, 2..4) else {
         return false;
-    }
-    let column = column as usize;
-    let mut k = 0;
-    while k < 256 {
-        let text = changed(line, column, k as u8, byte(line, 332 + k));
-        if letter(read(&text), column) != byte(line, 75 + k) {
-            return false;
-        }
-        k += 1;
-    }
-    line.len() == 588
+    };
+    let mut text = [0; 69];
+    text.copy_from_slice(&line[5..74]);
+    (0..=255).zip(&line[75..331]).zip(&line[332..]).all(|((b, answer), check)| gives(
+        text,
+        column as usize,
+        b,
+        *check,
+        *answer,
+    ))
 }

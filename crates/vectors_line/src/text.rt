@@ -1,33 +1,38 @@
 // The words of a record.
-ghost use Rattle.std.specs.Prelude.{◌≤◌};
+use line::fields::Numbers;
+use std::ops::Range;
+use std::str;
 
-// The byte at i, and a line end where there is none.
-pub fn byte(line: &[u8], i: usize) -> u8 {
-    if i < line.len() { line[i] } else { b'\n' }
+// The number that stands there in hexadecimal digits, 0 to 9 and A to F.
+pub fn hex(line: &[u8], at: Range<usize>) -> Option<u64> {
+    let digits = line.get(at)?;
+    // a sign and small letters, which from_str_radix takes, are of no record
+    if !digits
+        .iter()
+        .all(|b| matches!(b, b'0'..=b'9' | b'A'..=b'F'))
+    {
+        return None;
+    }
+    u64::from_str_radix(str::from_utf8(digits).ok()?, 16).ok()
 }
 
-// The value of a hexadecimal digit, and 16 for any other byte.
-fn digit(b: u8) -> u64 {
-    match b {
-        b'0'..=b'9' => (b - 48) as u64,
-        b'A'..=b'F' => (b - 55) as u64,
-        _ => 16,
-    }
+// The same as a number of 32 bits. What is none is one that no field has.
+fn small(words: &[u8], at: Range<usize>) -> u32 {
+    hex(words, at)
+        .and_then(|x| u32::try_from(x).ok())
+        .unwrap_or(u32::MAX)
 }
 
-// The number of some hexadecimal digits from `at` on. What is no such number gives one that no record has.
-pub fn hex(line: &[u8], at: usize, count: usize) -> u64
-    requires { (at ≤ 1000) × (count ≤ 16) }
-{
-    let mut value = 0;
-    let mut k = 0;
-    while k < count {
-        let d = digit(byte(line, at + k));
-        if d > 15 {
-            return 0xffff_ffff_ffff_ffff;
-        }
-        value = (value << 4) | d;
-        k += 1;
+// The eight numbers of a record, by their words.
+pub fn numbers(words: &[u8]) -> Numbers {
+    Numbers {
+        satellite: small(words, 0..10),
+        inclination: small(words, 11..21),
+        node: small(words, 22..32),
+        eccentricity: small(words, 33..43),
+        perigee: small(words, 44..54),
+        anomaly: small(words, 55..65),
+        mean_motion: hex(words, 66..76).unwrap_or(u64::MAX),
+        revolution: small(words, 77..87),
     }
-    value
 }

@@ -11,10 +11,10 @@ use Rattle.contents.specs.Format.{entries}
 use Rattle.contents.specs.Records.{Rec, record_of}
 use Rattle.contents.specs.Find.{sought}
 use Rattle.contents.specs.declared.format.Entry.{Entry}
-use Rattle.contents.specs.declared.find.Found.TheVariants.{SatelliteMissing, Body}
+use Rattle.std.specs.Prelude.{Some, None}
 
 module _ (x : ℕ) (e : Entry) (es : List Entry) where
-  pub sought-here : e.satellite ≡ x → sought x (e ∷ es) ≡ Body e.offset e.size
+  pub sought-here : e.satellite ≡ x → sought x (e ∷ es) ≡ Some (record { offset = e.offset; size = e.size })
   unfolding sought
   sought-here h = simp (eq-eqb _ _ h)
 
@@ -22,7 +22,7 @@ module _ (x : ℕ) (e : Entry) (es : List Entry) where
   unfolding sought
   sought-past h = simp (ne_eqb _ _ h)
 
-pub sought-end : (x left : ℕ) (s : List ℕ) → left ≤ 0 → sought x (entries left s) ≡ SatelliteMissing
+pub sought-end : (x left : ℕ) (s : List ℕ) → left ≤ 0 → sought x (entries left s) ≡ None
 unfolding entries sought
 sought-end x zero s h = refl
 sought-end x (suc k) s h = absurd (omega arith)

@@ -1,8 +1,8 @@
 -- The laws of the contents: the entries from an offset on are the entry there and the rest, and what one entry decides. Assumes nothing.
-use mathlib.Core.Path.{◌≡◌, refl}
+use mathlib.Core.Path.{◌≡◌, refl, ◌∙◌}
 use mathlib.Core.Bool.{Bool, true, false, ◌&&◌}
 use mathlib.Core.List.{List, [], ◌∷◌}
-use Prim.Native.Nat.{ℕ, zero, suc, ◌+◌, ◌-◌, ◌<◌, ◌≤◌}
+use Prim.Native.Nat.{ℕ, zero, suc, ◌+◌, ◌*◌, ◌-◌, ◌<◌, ◌≤◌}
 use native.Mathlib.Numerals.{add-one, sub-one}
 use native.Mathlib.Omega.{arith}
 use borrow.Author.Tests.{leb-true, eqb-true}
@@ -13,12 +13,19 @@ use Rattle.contents.specs.LittleEndian.{le}
 use Rattle.contents.specs.declared.format.Entry.{Entry}
 use Rattle.contents.specs.Format.{magic, version, most, entry_of, entries, follows, chained, count, contents_end, entries_of, header_right, contents_right}
 
--- where an entry is left, the entries are that at the offset, and those past it
-pub entries-more : (left : ℕ) (s : List ℕ) (at : ℕ) {e : Entry} → 0 < left → e ≡ entry_of (drop at s)
+entries_more : (left : ℕ) (s : List ℕ) (at : ℕ) {e : Entry} → 0 < left → e ≡ entry_of (drop at s)
     → entries left (drop at s) ≡ e ∷ entries (left - 1) (drop (at + 12) s)
 unfolding entries
-entries-more zero s at h p = absurd (omega arith)
-entries-more (suc k) s at h p = simp (p, sub-one, drop-drop)
+entries_more zero s at h p = absurd (omega arith)
+entries_more (suc k) s at h p = simp (p, sub-one, drop-drop)
+
+-- of n entries i are passed, and the next is entry q of the file: those left are that one, and those past it
+pub entries-next : (n i q : ℕ) (s : List ℕ) {e : Entry} → i < n → e ≡ entry_of (drop (contents_end q) s)
+    → entries (n - i) (drop (contents_end q) s) ≡ e ∷ entries (n - (i + 1)) (drop (contents_end (q + 1)) s)
+entries-next n i q s h e =
+    let a : n - i - 1 ≡ n - (i + 1) = omega arith in
+    let b : 8 + 12 * q + 12 ≡ 8 + 12 * (q + 1) = omega arith in
+    entries_more (n - i) s (contents_end q) (omega arith) e ∙ simp (a, b)
 
 module _ (end least at : ℕ) (e : Entry) (es : List Entry) where
   -- an entry that may not follow decides

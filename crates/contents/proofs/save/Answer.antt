@@ -11,32 +11,33 @@ use Rattle.contents.specs.Laid.{laid}
 use Rattle.contents.specs.Records.{header}
 use Rattle.contents.specs.Save.{saved_records, saved_file, saved}
 use Rattle.contents.specs.Table.{table_with, bodies_with}
-use Rattle.contents.specs.declared.save.Saved.TheVariants.{FileWrong, StoreFull, OutputShort, Written}
+use Rattle.std.specs.Prelude.{Ok, Err}
+use Rattle.contents.specs.declared.save.SaveError.TheVariants.{FileWrong, StoreFull, OutputShort}
 use Rattle.contents.specs.declared.save.Place.{Place}
 use Rattle.contents.proofs.Laid.{laid_then, laid-front}
 use Rattle.contents.proofs.save.Laws.{length-table, length-entries, length-entry_bytes}
 use Rattle.contents.proofs.save.New.{New, length-header}
 
 module _ (s : List ℕ) (x : ℕ) (b : List ℕ) (room : ℕ) where
-  pub is-wrong : contents_right s ≡ false → saved s x b room ≡ FileWrong
+  pub is-wrong : contents_right s ≡ false → saved s x b room ≡ Err FileWrong
   unfolding saved
   is-wrong h = simp h
 
-  pub too_many : contents_right s ≡ true → most < length (saved_records s x b) → saved s x b room ≡ StoreFull
+  pub too_many : contents_right s ≡ true → most < length (saved_records s x b) → saved s x b room ≡ Err StoreFull
   unfolding saved
   too_many h k = simp (h, lt-leb _ _ k)
 
-  pub too_long : contents_right s ≡ true → length (saved_records s x b) ≤ most → 2 ^ 32 ≤ length (saved_file s x b) → saved s x b room ≡ StoreFull
+  pub too_long : contents_right s ≡ true → length (saved_records s x b) ≤ most → 2 ^ 32 ≤ length (saved_file s x b) → saved s x b room ≡ Err StoreFull
   unfolding saved
   too_long h k l = simp (h, le-leb _ _ k, le-ltb _ _ l)
 
   pub no_room : contents_right s ≡ true → length (saved_records s x b) ≤ most → length (saved_file s x b) < 2 ^ 32 → room < length (saved_file s x b)
-      → saved s x b room ≡ OutputShort
+      → saved s x b room ≡ Err OutputShort
   unfolding saved
   no_room h k l m = simp (h, le-leb _ _ k, lt-ltb _ _ l, lt-leb _ _ m)
 
   pub is-written : contents_right s ≡ true → length (saved_records s x b) ≤ most → length (saved_file s x b) < 2 ^ 32 → length (saved_file s x b) ≤ room
-      → saved s x b room ≡ Written (length (saved_file s x b))
+      → saved s x b room ≡ Ok (length (saved_file s x b))
   unfolding saved
   is-written h k l m = simp (h, le-leb _ _ k, lt-ltb _ _ l, le-leb _ _ m)
 

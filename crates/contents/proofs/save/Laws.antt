@@ -40,13 +40,13 @@ place_end x i at (suc k) s h = absurd (omega arith)
 -- ---- the entries written one after another
 
 -- what is written with an entry, and the rest after it
-pub laid-entry : (at start : ℕ) (e : Entry) (es : List Entry) (l : List ℕ) {l₁ : List ℕ} → at ≤ length l
+pub laid-entry : (at next start : ℕ) (e : Entry) (es : List Entry) (l : List ℕ) {l₁ : List ℕ} → at ≤ length l → at + 12 ≡ next
     → l₁ ≡ laid at (entry_bytes e.satellite start e.size) l
-    → laid at (table start (e ∷ es)) l ≡ laid (at + 12) (table (start + e.size) es) l₁
+    → laid at (table start (e ∷ es)) l ≡ laid next (table (start + e.size) es) l₁
 unfolding table
-laid-entry at start e es l {l₁} h p =
+laid-entry at next start e es l {l₁} h k p =
     sym (laid-laid at (entry_bytes e.satellite start e.size) (table (start + e.size) es) l h)
-    ∙ simp (length-entry_bytes, p)
+    ∙ simp (length-entry_bytes, k, p)
 
 pub table-end : (start left : ℕ) (s : List ℕ) → left ≤ 0 → table start (entries left s) ≡ []
 unfolding table entries

@@ -1,41 +1,33 @@
--- `line_write::put` meets its contract: what is left to write gives the whole. Assumes nothing.
-use Prim.Native.Nat.{ℕ, ◌-◌, ◌/◌, ◌^◌}
-use mathlib.Core.Path.{◌≡◌, refl, sym, ◌∙◌, ap}
-use native.Mathlib.Nat.{div-one}
-use native.Mathlib.Omega.{arith}
+-- `line_write::put` meets its contract: what is left to write and what is written are the whole. Assumes nothing.
+use Rattle.std.proofs.Common.{◌≡◌, sym, ◌∙◌, ap, ℕ, ◌-◌, ◌/◌, ◌++◌, length, drop, arith}
 use lib.ListN.{set, length-set}
-use Rattle.line_write.specs.Write.{padded, laid}
-use Rattle.line_write.proofs.Laws.{laid_nil, laid-turn, div-turn}
+use Rattle.line_write.specs.Write.{padded}
+use Rattle.line_write.proofs.Laws.{padded-turn, div-turn}
 use Rattle.line_write.proofs.put.Goals as goal
-
-pub loop-i-init : goal.loop-i-init
-loop-i-init c =
-    let a = c.args in
-    let z : a.end - a.end ≡ 0 = omega arith in
-    (omega arith, omega arith, c.requires.1, omega arith, sym (ap (λ (n : ℕ). a.x / 10 ^ n) z ∙ div-one a.x), refl)
 
 pub loop-i-preserved : goal.loop-i-preserved
 loop-i-preserved c =
     let l = c.loop-i in
-    let a = c.args in (
-      omega arith,
-      omega arith,
-      simp length-set l.invariant.2,
-      omega arith,
-      div-turn a.x l.x a.end l.i (omega arith) (omega arith) l.invariant.4,
-      l.invariant.5
-          ∙ laid-turn a.from l.i a.blanks l.x (l.line) (omega arith) (omega arith)
-          ∙ ap (λ (b : ℕ). laid a.from (padded a.blanks (l.i - 1 - a.from) (l.x / 10)) (set (l.line) (l.i - 1) b)) (sym c.byte.ensures),
-    )
+    let a = c.args in
+    let n = length-set l.columns (l.i - 1) c.byte.result in
+    record {
+      inside = rw n (omega arith);
+      left = rw n (div-turn a.x l.left (length l.columns) l.i (omega arith) (omega arith) l.invariant.left);
+      whole =
+          rw n
+          (l.invariant.whole
+          ∙ padded-turn a.blanks l.i l.left l.columns (omega arith) (omega arith)
+          ∙ ap (λ (b : ℕ). padded a.blanks (l.i - 1) (l.left / 10) ++ drop (l.i - 1) (set l.columns (l.i - 1) b)) (sym c.byte.ensures));
+    }
 
 pub returns : goal.returns
 unfolding padded
 returns c =
     let l = c.loop-i in
     let a = c.args in
-    let z : l.i - a.from ≡ 0 = omega arith in
-    let e : a.end - l.i ≡ a.end - a.from = omega arith in (
-      l.invariant.4 ∙ ap (λ (n : ℕ). a.x / 10 ^ n) e,
-      sym (l.invariant.5 ∙ ap (λ (k : ℕ). laid a.from (padded a.blanks k l.x) l.line) z ∙ laid_nil a.from l.line),
-      l.invariant.2,
-    )
+    let z : l.i ≡ 0 = omega arith in
+    let k : length l.columns ≡ length a.columns.now = l.auto.columns in
+    let i = l.invariant in
+    let w : padded a.blanks (length a.columns.now) a.x ≡ l.columns = rw (k, z) at i.whole in
+    let n : length l.columns - l.i ≡ length a.columns.now = omega arith in
+    (rw n at i.left, sym w)

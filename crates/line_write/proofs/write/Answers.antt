@@ -1,45 +1,31 @@
--- `line_write::write` meets its contract: a refusal leaves the buffer, and what is copied is the line. Assumes nothing.
-use mathlib.Core.List.{List, ◌++◌}
-use mathlib.Core.Path.{◌≡◌, sym, ◌∙◌, ap}
-use Prim.Native.Nat.{ℕ, ◌≤◌}
-use borrow.Author.Tests.{lt-ltb, le-ltb}
-use lib.ListN.{length, drop, set}
+-- `line_write::write` meets its contract: what is copied is the line. Assumes nothing.
+use Rattle.std.proofs.Common.{◌≡◌, sym, ◌∙◌, ap, ℕ, List, ◌++◌, length, drop, Ok, Result}
+use borrow.Author.Tests.{le-ltb}
+use lib.ListN.{set, length-set}
+use lib.Seq.{length-take-le}
 use Rattle.line.specs.Read.{check_digit}
-use Rattle.line_write.specs.Write.{fitted_of, written_to, output_of}
-use Rattle.line.specs.declared.fields.Numbers.{Numbers}
-use Rattle.line_write.specs.declared.Writing.{Writing}
-use Rattle.line_write.specs.declared.Writing.TheVariants.{Done}
-use Rattle.line_write.proofs.Laws.{done, kept, line-is}
+use Rattle.line_write.specs.Write.{fields_on, field_on, laid, padded, written_to, output_of}
+use Rattle.line_write.specs.declared.WriteError.{WriteError}
+use Rattle.line_write.proofs.Laws.{line-is}
 use Rattle.line_write.proofs.write.Goals as goal
 
--- with room for a line, the fields decide
-decided : (room : ℕ) (n : Numbers) (w : Writing) → 69 ≤ room → w ≡ fitted_of n → written_to room n ≡ w
-unfolding written_to
-decided room n w h e = simp (le-ltb _ _ h, e)
-
-pub returns-then-out-lt69 : goal.returns-then-out-lt69
-unfolding written_to
-returns-then-out-lt69 c = (simp (lt-ltb _ _ c.if-out-lt69.true), simp (lt-ltb _ _ c.if-out-lt69.true))
-
-pub returns-then-number-ne0 : goal.returns-then-number-ne0
-returns-then-number-ne0 c =
-    let a = c.args in
-    let out = a.out.now in (
-      sym (decided _ _ _ c.if-out-lt69.false c.fitted-f.ensures),
-      sym
-          (ap (λ (w : Writing). output_of w a.n out) (decided _ _ _ c.if-out-lt69.false c.fitted-f.ensures)
-          ∙ kept c.fitted-f.result a.n out (λ h. c.if-number-ne0.true (c.number.ensures ∙ h))),
-    )
+pub copy_from_slice-requires : goal.copy_from_slice-requires
+unfolding fields_on field_on laid padded
+copy_from_slice-requires c =
+    length-take-le 69 c.args.out.now c.if-out-lt69.false
+    ∙ sym (length-set c.fields-line.result 68 c.check_digit.result ∙ ap length c.fields-line.ensures)
 
 pub returns : goal.returns
+unfolding written_to
 returns c =
-    let a = c.args in
-    let out = a.out.now in
-    let d : written_to (length out) a.n ≡ Done = decided _ _ _ c.if-out-lt69.false c.fitted-f.ensures ∙ done c.fitted-f.result (sym c.number.ensures ∙ c.if-number-ne0.false) in (
+    let n = c.args.n in
+    let out = c.args.out.now in
+    let d : written_to (length out) n ≡ Ok tt = simp (le-ltb _ _ c.if-out-lt69.false) (sym c.fitted.ensures ∙ c.in_ok-fitted.was) in (
       sym d,
-      c.copy.ensures
-          ∙ ap (λ (b : ℕ). set c.fields-line.result 68 b ++ drop 69 out) c.check_digit.ensures
-          ∙ ap (λ (s : List ℕ). set s 68 (check_digit s) ++ drop 69 out) c.fields-line.ensures.0
-          ∙ ap (λ (s : List ℕ). s ++ drop 69 out) (line-is a.n)
-          ∙ sym (ap (λ (w : Writing). output_of w a.n out) d),
+      ap (λ (l : List ℕ). l ++ drop 69 out)
+          (c.copy_from_slice.ensures.after
+          ∙ ap (λ (b : ℕ). set c.fields-line.result 68 b) c.check_digit.ensures
+          ∙ ap (λ (s : List ℕ). set s 68 (check_digit s)) c.fields-line.ensures
+          ∙ line-is n)
+          ∙ sym (ap (λ (w : Result (Unit {0}) WriteError). output_of w n out) d),
     )

@@ -4,7 +4,7 @@ use borrow.Author.Tests.{ne_eqb}
 use lib.ListN.{length}
 use Rattle.body.specs.Body.{size_of}
 use Rattle.body.specs.Read.{kind_in, shaped}
-use Rattle.body.proofs.Sizes.{size-least}
+use Rattle.body.proofs.Sizes.{size-least, shaped-at_once}
 use Rattle.body.proofs.read.is_shaped.Goals as goal
 
 pub returns-then-body-lt8 : goal.returns-then-body-lt8
@@ -17,4 +17,4 @@ returns-then-body-lt8 c =
 pub returns : goal.returns
 unfolding shaped
 returns c =
-    simp c.size_of-size.ensures
+    simp (c.size_of-size.ensures, c.starts_with.ensures.value) (shaped-at_once c.args.body.now (omega arith))

@@ -9,6 +9,6 @@ pub returns-then-up_to_65 : goal.returns-then-up_to_65
 unfolding g410 dec of_bits round
 returns-then-up_to_65 c = simp (sym c.up_to_65.ensures, c.if-up_to_65.true, c.cubic.ensures)
 
-pub returns : goal.returns
+pub returns-else-up_to_65 : goal.returns-else-up_to_65
 unfolding g410 dec of_bits round
-returns c = simp (sym c.up_to_65.ensures, c.if-up_to_65.false, c.cubic-2.ensures)
+returns-else-up_to_65 c = simp (sym c.up_to_65.ensures, c.if-up_to_65.false, c.cubic-else-up_to_65.ensures)

@@ -13,6 +13,6 @@ pub returns-then-e : goal.returns-then-e
 unfolding g520 dec of_bits round
 returns-then-e c = simp (sym c.up_to_65.ensures, c.if-up_to_65.false, c.if-e.true, c.quadratic.ensures)
 
-pub returns : goal.returns
+pub returns-else-e : goal.returns-else-e
 unfolding g520 dec of_bits round
-returns c = simp (sym c.up_to_65.ensures, c.if-up_to_65.false, c.if-e.false, c.cubic-2.ensures)
+returns-else-e c = simp (sym c.up_to_65.ensures, c.if-up_to_65.false, c.if-e.false, c.cubic-else-e.ensures)

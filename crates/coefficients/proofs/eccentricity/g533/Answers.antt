@@ -9,6 +9,6 @@ pub returns-then-below_70 : goal.returns-then-below_70
 unfolding g533 dec of_bits round
 returns-then-below_70 c = simp (sym c.below_70.ensures, c.if-below_70.true, c.cubic.ensures)
 
-pub returns : goal.returns
+pub returns-else-below_70 : goal.returns-else-below_70
 unfolding g533 dec of_bits round
-returns c = simp (sym c.below_70.ensures, c.if-below_70.false, c.cubic-2.ensures)
+returns-else-below_70 c = simp (sym c.below_70.ensures, c.if-below_70.false, c.cubic-else-below_70.ensures)

@@ -1,12 +1,8 @@
 -- `contents::format::is_header` meets its contract. Assumes nothing.
-use borrow.Author.Tests.{le-leb, lt-leb}
+use borrow.Author.Tests.{le-leb}
 use Rattle.contents.specs.Format.{header_right}
 use Rattle.contents.proofs.format.Laws.{magic-number}
 use Rattle.contents.proofs.format.is_header.Goals as goal
-
-pub returns-then-file-lt8 : goal.returns-then-file-lt8
-unfolding header_right
-returns-then-file-lt8 c = simp (lt-leb _ _ c.if-file-lt8.true)
 
 pub returns : goal.returns
 unfolding header_right

@@ -1,7 +1,6 @@
--- `contents::little_endian::u32_at` meets its contract: a number is its two halves. Assumes nothing.
-use Rattle.contents.proofs.Le.{le-at}
-use native.Mathlib.Omega.{arith}
+-- `contents::little_endian::u32_at` meets its contract: the library's number is the one of the definition. Assumes nothing.
+use Rattle.contents.proofs.Le.{from_le_4}
 use Rattle.contents.proofs.little_endian.u32_at.Goals as goal
 
 pub returns : goal.returns
-returns c = let a = c.args in omega (arith, le-at 2 2 a.s.now a.at)
+returns c = let a = c.args in from_le_4 a.at a.s.now c.from_le_bytes.ensures

@@ -1,17 +1,20 @@
--- `contents::little_endian::u64_at` meets its contract. Assumes nothing.
-use Rattle.contents.proofs.Le.{le-at, word-inside, word-outside}
-use mathlib.Core.Path.{sym}
+-- `contents::little_endian::u64_at` meets its contract: the library's number is the one of the definition. Assumes nothing.
+use mathlib.Core.Path.{sym, ◌∙◌}
 use native.Mathlib.Omega.{arith}
+use lib.ListN.{length-drop}
+use Rattle.std.proofs.lemmas.List.{take_rest}
+use Rattle.contents.proofs.Le.{from_le_8, word-inside, word-outside}
 use Rattle.contents.proofs.little_endian.u64_at.Goals as goal
 
-pub returns-then-s-at : goal.returns-then-s-at
-returns-then-s-at c = let a = c.args in sym (word-outside a.at a.s.now (omega arith))
-
-pub returns-then-s-at-lt8 : goal.returns-then-s-at-lt8
-returns-then-s-at-lt8 c = let a = c.args in sym (word-outside a.at a.s.now (omega arith))
-
-pub returns : goal.returns
-returns c =
+pub returns-in-Some : goal.returns-in-Some
+returns-in-Some c =
     let a = c.args in
-    let e = word-inside a.at a.s.now (omega arith) in
-    omega (arith, e, le-at 4 4 a.s.now a.at)
+    let k = c.in-Some.ensures.cases in
+    let n = rw (take_rest a.s.now a.at, length-drop a.at a.s.now) at k.enough in
+    from_le_8 a.at a.s.now k c.from_le_bytes.ensures ∙ sym (word-inside a.at a.s.now (omega arith))
+
+pub returns-in-None : goal.returns-in-None
+returns-in-None c =
+    let a = c.args in
+    let n = rw (take_rest a.s.now a.at, length-drop a.at a.s.now) at c.in-None.ensures.cases in
+    sym (word-outside a.at a.s.now (omega arith))

@@ -16,12 +16,12 @@ unfolding table_with
 returns c =
     let a = c.args in
     let l = a.out.now in
-    let s = a.file.now in
-    let start = contents_end (a.n + 1 - a.old) in
+    let s = a.contents.file.now in
+    let start = contents_end (a.contents.count + 1 - a.p.old) in
     let mid = c.put_entries-mid.result in
-    let t₁ = table start (entries a.below (drop 8 s)) in
+    let t₁ = table start (entries a.p.below (drop 8 s)) in
     let new = entry_bytes a.satellite mid a.size in
-    let t₂ = table (mid + a.size) (entries (a.n - (a.below + a.old)) (drop (8 + 12 * (a.below + a.old)) s)) in
-    let e₂ = laid_then 8 (8 + 12 * a.below) t₁ new l (omega arith) c.put_entries-mid.ensures.1 (simp (length-table, length-entries)) c.put_entry.ensures in
-    laid_then 8 (20 + 12 * a.below) (t₁ ++ new) t₂ l (omega arith) e₂ (simp (length-append, length-table, length-entries, length-entry_bytes) (omega arith)) c.put_entries.ensures.1
+    let t₂ = table (mid + a.size) (entries (a.contents.count - (a.p.below + a.p.old)) (drop (8 + 12 * (a.p.below + a.p.old)) s)) in
+    let e₂ = laid_then 8 (contents_end a.p.below) t₁ new l (omega arith) c.put_entries-mid.ensures.1 (simp (length-table, length-entries)) c.put_entry.ensures in
+    laid_then 8 (contents_end (a.p.below + 1)) (t₁ ++ new) t₂ l (omega arith) e₂ (simp (length-append, length-table, length-entries, length-entry_bytes) (omega arith)) c.put_entries.ensures.1
     ∙ simp (append_assoc, c.put_entries-mid.ensures.0)

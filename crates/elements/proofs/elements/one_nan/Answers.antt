@@ -1,11 +1,14 @@
--- `elements::elements::one_nan` meets its contract: only a NaN differs from itself. Assumes nothing.
-use mathlib.Core.Path.{sym, subst}
-use lib.Dec.{T}
-use lib.Ieee.{of_bits, div}
-use lib.Ieee.Compare.{differs_from_itself}
+-- `elements::elements::one_nan` meets its contract: only a NaN is one. Assumes nothing.
+use lib.Ieee.{Float, of_bits, binary64, is_nan, nan, inf, fin}
+use mathlib.Core.Path.{◌≡◌, refl, sym}
+use mathlib.Core.Bool.{true, false≢true}
 use Rattle.elements.proofs.elements.one_nan.Goals as goal
 
-pub returns-then-x : goal.returns-then-x
-unfolding div of_bits
-returns-then-x c =
-    sym (differs_from_itself c.args.x (subst T (sym c.if-x.true) tt))
+the-nan : (x : Float) → true ≡ is_nan x → of_bits binary64 0x7ff8_0000_0000_0000 ≡ x
+unfolding of_bits is_nan
+the-nan nan e = refl
+the-nan (inf s) e = absurd (false≢true (sym e))
+the-nan (fin s m x) e = absurd (false≢true (sym e))
+
+pub returns-then-is_nan : goal.returns-then-is_nan
+returns-then-is_nan c = the-nan c.args.x (c.if-is_nan.ensures.value)

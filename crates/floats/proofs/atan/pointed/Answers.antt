@@ -6,4 +6,4 @@ use Rattle.floats.proofs.atan.pointed.Goals as goal
 
 pub returns : goal.returns
 unfolding pointed dec of_bits round
-returns c = simp (c.rest.ensures, c.lean.ensures, c.sense.ensures, c.greater.ensures, c.lesser.ensures, c.side-sx.ensures, c.side-sy.ensures)
+returns c = simp (c.rest.ensures, c.lean.ensures, c.in_order-low.ensures.0, c.in_order-low.ensures.1, c.sign.ensures, c.sign-sx.ensures, c.sign-sy.ensures)

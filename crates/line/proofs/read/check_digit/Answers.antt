@@ -1,19 +1,16 @@
 -- `line::read::check_digit` meets its contract: all of a shorter line is its first 68 bytes. Assumes nothing.
-use Prim.Native.Nat.{ℕ, ◌+◌, ◌%◌}
-use mathlib.Core.Path.{◌≡◌, sym, ◌∙◌, ap}
-use native.Mathlib.Omega.{arith}
-use lib.ListN.{length, take}
-use lib.Seq.{take_all, take-length}
-use Rattle.line.specs.Read.{sum_of, check_digit}
+use Rattle.std.proofs.Common.{◌≡◌, ℕ, ◌+◌, ◌%◌, ◌∙◌, ap, length, take, min, sum_by, arith}
+use Rattle.std.proofs.lemmas.List.{length-take, take_min}
+use Rattle.line.specs.Read.{weight_of, check_digit}
+use Rattle.line.proofs.Laws.{weights-most}
 use Rattle.line.proofs.read.check_digit.Goals as goal
 
-pub returns-then-n-lt68 : goal.returns-then-n-lt68
-unfolding check_digit
-returns-then-n-lt68 c =
-    let s = c.args.line.now in
-    let e : take (length s) s ≡ take 68 s = take-length s ∙ sym (take_all 68 s (omega arith)) in
-    ap (λ (x : ℕ). 48 + x % 10) (c.sum.ensures ∙ ap sum_of e)
+pub sum-requires : goal.sum-requires
+sum-requires c = omega (arith, weights-most (take c.min.result c.args.line.now) (omega (arith, length-take c.min.result c.args.line.now)))
 
 pub returns : goal.returns
 unfolding check_digit
-returns c = ap (λ (x : ℕ). 48 + x % 10) c.sum-2.ensures
+returns c =
+    let s = c.args.line.now in
+    let m : c.min.result ≡ min 68 (length s) = omega (arith, c.min.ensures) in
+    ap (λ (x : ℕ). 48 + x % 10) (c.sum.ensures ∙ ap (sum_by weight_of) (ap (λ (k : ℕ). take k s) m ∙ take_min 68 s))

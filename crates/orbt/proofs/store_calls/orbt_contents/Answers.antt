@@ -6,11 +6,5 @@ use Rattle.orbt.proofs.store_calls.orbt_contents.Goals as goal
 
 pub overflow_cast-count : goal.overflow_cast-count
 overflow_cast-count c =
-    let m = counted-most c.args.file.now _ (sym c.record_count.ensures ∙ c.in-Records.is) in
+    let m = counted-most c.args.file.now _ (sym c.record_count.ensures ∙ c.in-Ok.is) in
     omega arith
-
-pub returns-in-FileWrong : goal.returns-in-FileWrong
-returns-in-FileWrong c = (simp (← c.record_count.ensures, c.in-FileWrong.is), simp (← c.record_count.ensures, c.in-FileWrong.is))
-
-pub returns-in-Records : goal.returns-in-Records
-returns-in-Records c = (simp (← c.record_count.ensures, c.in-Records.is), simp (← c.record_count.ensures, c.in-Records.is))

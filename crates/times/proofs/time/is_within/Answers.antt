@@ -1,9 +1,16 @@
--- `times::time::is_within` meets its contract: two comparisons with ±720·2^20. Assumes nothing.
-use mathlib.Core.Path.{refl}
-use lib.Ieee.{of_bits, neg}
+-- `times::time::is_within` meets its contract: `contains` is two comparisons with ±720·2^20. Assumes nothing.
+use mathlib.Core.Path.{refl, ◌∙◌}
+use mathlib.Core.Bool.{true, false}
+use lib.IntN.{pos}
+use lib.Ieee.{fin, le, of_bits, neg}
 use Rattle.floats.proofs.Values.{between}
+use Rattle.times.proofs.Compared.{partial_le-floats, and-comm}
 use Rattle.times.proofs.time.is_within.Goals as goal
 
 pub returns : goal.returns
 unfolding of_bits neg
-returns c = between c.args.x 45 24 754974720 refl
+returns c =
+    let x = c.args.x in
+    c.contains.ensures.value
+    ∙ simp (c.new.ensures.start, c.new.ensures.end, c.new.ensures.exhausted, partial_le-floats)
+    (and-comm (le (fin true 45 (pos 24)) x) (le x (fin false 45 (pos 24))) ∙ between x 45 24 754974720 refl)

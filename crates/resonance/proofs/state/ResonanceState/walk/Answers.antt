@@ -1,6 +1,8 @@
 -- `resonance::advance`'s loop meets its contract. The invariant is `Walk`: so many steps are made, and the time is the state's number and those further. The
 -- measure is what is left of t's number. Assumes nothing.
-use mathlib.Core.Path.{◌≡◌, sym, ◌∙◌}
+use mathlib.Core.Path.{◌≡◌, refl, sym, ◌∙◌}
+use Rattle.std.specs.Prelude.{Option, Some, None}
+use Rattle.resonance.specs.declared.state.ResonanceState.{ResonanceState}
 use mathlib.Core.Bool.{true, not}
 use Prim.Native.Nat.{ℕ, ◌+◌, ◌-◌, ◌<◌, ◌≤◌, ◌^◌}
 use native.Mathlib.Omega.{arith}
@@ -29,6 +31,10 @@ less c = walk_more _ _ _ _ _ _ (in_loop c) c.loop-c.invariant (more c)
 few : (c : In-loop-c) → number c.args.t ≤ 2 ^ 20
 few c = walk-few _ _ _ _ _ _ (in_loop c) c.loop-c.invariant
 
+none-from : (o : Option ResonanceState) → ((x : ResonanceState) → o ≡ Some x → ⊥) → o ≡ None
+none-from None h = refl
+none-from (Some x) h = absurd (h x refl)
+
 pub loop-c-init : goal.loop-c-init
 unfolding back of_bits
 loop-c-init c = walk_start c.args.c c.args.self c.args.t c.requires
@@ -47,9 +53,9 @@ pub loop-c-preserved : goal.loop-c-preserved
 loop-c-preserved c =
     walk-next _ _ _ _ _ _ (held (goal.at.loop-c-preserved c).Start) c.loop-c.invariant c.in-Some.next (more (goal.at.loop-c-preserved c).In-loop-c) (sym c.next.ensures ∙ c.in-Some.is)
 
-pub returns-in-None : goal.returns-in-None
-returns-in-None c =
-    walk-stop _ _ _ _ _ _ (held (goal.at.returns-in-None c).Start) c.loop-c.invariant (more (goal.at.returns-in-None c).In-loop-c) (sym c.next.ensures ∙ c.in-None.is)
+pub returns-in_default : goal.returns-in_default
+returns-in_default c =
+    walk-stop _ _ _ _ _ _ (held (goal.at.returns-in_default c).Start) c.loop-c.invariant (more (goal.at.returns-in_default c).In-loop-c) (sym c.next.ensures ∙ none-from c.next.result c.in_default.not-Some)
 
 pub returns : goal.returns
 returns c = walk_end _ _ _ _ _ _ (held (goal.at.returns c).Start) c.loop-c.invariant (sym c.is_due.ensures ∙ c.loop-c-test.false)

@@ -1,6 +1,0 @@
--- `contents::format::entry_at` meets its contract. Assumes nothing.
-use lib.Seq.{drop-drop}
-use Rattle.contents.proofs.format.entry_at.Goals as goal
-
-pub returns : goal.returns
-returns c = simp (c.u32_at.ensures, c.u32_at-2.ensures, c.u32_at-3.ensures, drop-drop)

@@ -1,6 +1,0 @@
--- `elements::elements::Question::is_finite` meets its contract: each call gives the test that the definition names. Assumes nothing.
-use Rattle.elements.proofs.elements.Question.is_finite.Goals as goal
-
-pub returns : goal.returns
-returns c =
-    simp (c.is_finite.ensures, c.is_finite-2.ensures, c.is_finite-3.ensures, c.is_finite-4.ensures)

@@ -1,6 +1,0 @@
--- `orbt::orbit_calls::kind_or` meets its contract: each arm is that of the answer. Assumes nothing.
-use Rattle.orbt.proofs.orbit_calls.kind_or.Goals as goal
-
-pub returns-in-Of : goal.returns-in-Of
-returns-in-Of c =
-    simp (c.in-Of.is, c.kind_of.ensures)

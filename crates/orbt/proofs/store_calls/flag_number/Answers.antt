@@ -1,8 +1,0 @@
--- `orbt::store_calls::flag_number` meets its contract. Assumes nothing.
-use Rattle.orbt.proofs.store_calls.flag_number.Goals as goal
-
-pub returns-then-c : goal.returns-then-c
-returns-then-c c = simp c.if-c.true
-
-pub returns-else-c : goal.returns-else-c
-returns-else-c c = simp c.if-c.false

@@ -1,5 +1,0 @@
--- `vectors_line::reads::in_bytes` is safe and ends: a byte at each turn. Assumes nothing.
-use Rattle.vectors_line.proofs.reads.in_bytes.Goals as goal
-
-pub slice_bounds-read-end : goal.slice_bounds-read-end
-slice_bounds-read-end c = c.changed-text.ensures

@@ -1,9 +1,0 @@
--- `vectors_orbit::read_words` is safe and ends: it passes one word at each turn. Assumes nothing.
-use Rattle.std.proofs.Common.{length, ◌≤◌, ◌-◌}
-use Rattle.vectors_orbit.proofs.read_words.Given as goal
-
-abbrev pub invariant-loop-at : goal.invariant-loop-at
-invariant-loop-at l = (l.at ≤ l.n) × (l.n ≤ length l.line) × (l.count ≤ 80)
-
-abbrev pub decreases-loop-at : goal.decreases-loop-at
-decreases-loop-at l = l.n - l.at

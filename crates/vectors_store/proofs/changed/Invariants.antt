@@ -1,9 +1,0 @@
--- `vectors_store::changed` is safe and ends: it passes two words at each turn. Assumes nothing.
-use Rattle.std.proofs.Common.{◌≤◌, ◌-◌}
-use Rattle.vectors_store.proofs.changed.Given as goal
-
-abbrev pub invariant-loop-k : goal.invariant-loop-k
-invariant-loop-k l = l.k ≤ l.count
-
-abbrev pub decreases-loop-k : goal.decreases-loop-k
-decreases-loop-k l = l.count - l.k
