@@ -26,7 +26,7 @@ pub enum BodyError {
 }
 
 impl BodyError {
-    // The refusal's number.
+    // The refusal's number. (No `From`: `e.number()` says which number it is, by the same body.)
     pub fn number(self) -> u32
         ensures { result ≡ number_of_error self }
     {
@@ -90,12 +90,10 @@ pub fn examine(c: Constants, s: Option<ResonanceState>) -> Result<Record, BodyEr
     if !(c.is_finite() & is_held_finite(s)) {
         return Err(BodyError::NumberNotFinite);
     }
-    match replay_held(c, s) {
-        Ok(steps) => Ok(Record {
-            constants: c,
-            state: s,
-            steps,
-        }),
-        Err(steps) => Err(BodyError::StateWrong { steps }),
-    }
+    let steps = replay_held(c, s).map_err(|steps| BodyError::StateWrong { steps })?;
+    Ok(Record {
+        constants: c,
+        state: s,
+        steps,
+    })
 }

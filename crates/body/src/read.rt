@@ -9,6 +9,7 @@ use crate::floats_at::{f64_at, floats_34};
 use record::constants_of;
 use resonance::state::ResonanceState;
 
+// A kind is the number that stands in the file, here too.
 // Where the state of a body begins, or its end where it has none.
 pub fn state_start(kind: u32) -> usize
     ensures { result ≡ state_start kind }

@@ -1,4 +1,5 @@
 // The three coefficients of the one-day resonance.
+// Their numbers come one by one, for the reason that half_day.rt gives.
 ghost use Rattle.std.specs.Prelude.{◌≡◌};
 ghost use Rattle.coefficients.specs.OneDay.{p17 as p17_of, dr1 as dr1_of, dr2 as dr2_of, dr3 as dr3_of, coefficients as coefficients_of};
 

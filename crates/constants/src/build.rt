@@ -58,6 +58,8 @@ fn half_day_resonant(orbit_0: Orbit, given: Given, dots: Dots, theta: f64, sine:
 
 // The kind by the class of the orbit: `a0` is kept, or the numbers of its resonance are formed. None
 // where that needs a sine that is refused.
+// (Sine and sidereal time in both resonant arms: before the match, a non-resonant orbit would be refused
+// for its sine.)
 #[tactic(auto, unfolding(crate::specs::Build::kind_of))]
 fn kind_of(which: SiderealTime, orbit_0: Orbit, given: Given, dots: Dots) -> Option<Resonant>
     ensures { result ≡ kind_of which orbit_0 given dots }

@@ -10,7 +10,7 @@ pub enum BuildError {
 }
 
 impl BuildError {
-    // The refusal's number.
+    // The refusal's number. (No `From`: `e.number()` says which number it is, by the same body.)
     pub fn number(self) -> u32
         ensures { result ≡ number_of self }
     {

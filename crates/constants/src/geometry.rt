@@ -10,7 +10,7 @@ use floats::power::square;
 use floats::remainder::rem;
 use floats::root::sqrt;
 use floats::trig::{SinCos, sin_cos};
-use orbit::model::TAU;
+use std::f64::consts::TAU;
 
 // A third body: sine and cosine of its inclination, of Ω₀ less its node, and of its argument of
 // perigee; its mean anomaly in rad.
@@ -48,6 +48,8 @@ fn d1900(epoch: f64) -> f64
     (epoch + 100.0) * 365.25
 }
 
+// Three angles of one form, each under its own formula: one function of the two numbers would part them and
+// save no line.
 // Mₛ₀ = (6.2565837 + 0.017201977 d₁₉₀₀) rem 2π
 fn solar_mean_anomaly_0(d1900: f64) -> f64
     ensures { result ≡ solar_mean_anomaly d1900 }
@@ -165,6 +167,7 @@ fn lunar(d1900: f64, node: SinCos, plane: Plane, perigee: SinCos) -> ThirdBody
     }
 }
 
+// (A chain of `&`, for the reason that `Geopotential::is_finite` gives.)
 impl ThirdBody {
     // Whether every number is finite.
     pub fn is_finite(self) -> bool

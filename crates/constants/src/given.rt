@@ -30,6 +30,7 @@ pub struct Dots {
     pub mean_anomaly: f64,
 }
 
+// (Chains of `&`, for the reason that `Geopotential::is_finite` gives.)
 impl Given {
     // Whether every number is finite.
     pub fn is_finite(self) -> bool
@@ -62,6 +63,7 @@ impl Dots {
 }
 
 // The rates of the Sun and of the Moon together: every use of them in the Rust adds them first.
+// (No `impl Add`: the same body with two ghost members more, for one use.)
 pub fn sum(solar: Dots, lunar: Dots) -> Dots
     ensures { result ≡ sum_of solar lunar }
 {

@@ -1,12 +1,13 @@
 // The resonant longitude λ₀ at the epoch and its rate λ̇₀, for the two resonances. The rates of the
 // Sun and of the Moon come in together, as the Rust adds each pair first.
+// Orbit, numbers given and rates come one by one, for the reason that build.rt gives.
 ghost use Rattle.std.specs.Prelude.{◌≡◌};
 ghost use Rattle.constants.specs.Longitude.{one_day_lambda_0, one_day_lambda_dot_0, half_day_lambda_0, half_day_lambda_dot_0};
 
 use crate::given::{Dots, Given};
 use floats::remainder::rem;
-use orbit::model::TAU;
 use orbit::propagator::Orbit;
+use std::f64::consts::TAU;
 
 // θ̇ = 4.37526908801129966 × 10⁻³ rad.min⁻¹
 const SIDEREAL_SPEED: f64 = 4.37526908801129966e-3;

@@ -14,7 +14,7 @@ pub enum FindError {
 }
 
 impl FindError {
-    // The refusal's number.
+    // The refusal's number. (No `From`: `e.number()` says which number it is, by the same body.)
     pub fn number(self) -> u32
         ensures { result ≡ number_of_error self }
     {
@@ -42,6 +42,8 @@ impl Contents<'_> {
     fn find(self, satellite: u32) -> Option<Span>
         ensures { result ≡ sought satellite (entries self.entry.count (drop 8 self.entry.file.now)) }
     {
+        // by a loop: with a chain of `map` and `find`, which was proved, a restore among 128 records takes
+        // 377 ns for 300
         for i in 0..self.count {
             let e = self.entry(i);
             if e.satellite == satellite {

@@ -18,7 +18,7 @@ pub(crate) const MOST: usize = 128;
 pub struct FileWrong;
 
 impl FileWrong {
-    // The refusal's number.
+    // The refusal's number. (No `From`: `e.number()` says which number it is, by the same body.)
     pub fn number(self) -> u32
         ensures { result ≡ wrong_number }
     {

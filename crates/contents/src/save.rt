@@ -19,7 +19,7 @@ pub enum SaveError {
 }
 
 impl SaveError {
-    // The refusal's number.
+    // The refusal's number. (No `From`: `e.number()` says which number it is, by the same body.)
     pub fn number(self) -> u32
         ensures { result ≡ number_of_error self }
     {
@@ -91,7 +91,7 @@ fn put_header(out: &mut [u8], n: usize)
     put_number::<2>(out, 6, n as u64);
 }
 
-// Writes entry i of a file.
+// Writes entry i of a file. (No `Entry`: its offset has 32 bits, and that a new one fits is known of the whole file alone.)
 fn put_entry(out: &mut [u8], i: usize, satellite: u32, offset: usize, size: usize)
     requires { contents_end (i + 1) ≤ length out.old }
     ensures { out.new ≡ laid (contents_end i) (entry_bytes satellite offset size) out.old }
@@ -165,6 +165,8 @@ fn put_bodies(out: &mut [u8], at: usize, file: &[u8], end: usize, p: Place, body
 }
 
 // Writes the old file with one record added or replaced into `out`. Returns the length of the new file.
+// (File, room and satellite one by one, as the C call has them: a struct would be made and taken apart again in each of four
+// crates.)
 pub fn save(file: &[u8], out: &mut [u8], satellite: u32, body: &[u8]) -> Result<usize, SaveError>
     ensures { (result ≡ saved file.now satellite body.now (length out.old))
         × (out.new ≡ output_of result (saved_file file.now satellite body.now) out.old) }

@@ -15,14 +15,14 @@ use store::restore::{RestoreError, restore};
 use store::save::{StoreError, save};
 
 // Constants and state in force. A non-resonant orbit has no state.
-#[derive(Clone, Copy)]
+#[derive(Clone, Copy, Debug, PartialEq)]
 pub struct Controller {
     constants: Constants,
     state: Option<ResonanceState>,
 }
 
 // An answer, the controller after it, and the steps made.
-#[derive(Clone, Copy)]
+#[derive(Clone, Copy, Debug, PartialEq)]
 pub struct After<A> {
     pub answer: A,
     pub controller: Controller,
@@ -36,6 +36,7 @@ pub type Reply = After<Answer>;
 pub type Resumed = After<Result<(), RestoreError>>;
 
 // The number of a restore's refusal, and 0 where the restore was accepted.
+// (Public, and its clause cites `number` of specs/, which has the 0 too.)
 pub fn number(answer: Result<(), RestoreError>) -> u32
     ensures { result ≡ number_of answer }
 {
@@ -98,6 +99,7 @@ impl Controller {
 
     // Writes the file with the record of a satellite added or replaced into `out`; the controller stays
     // as it is.
+    // (File, room and satellite one by one, for the reason that contents::save gives.)
     pub fn save(self, file: &[u8], out: &mut [u8], satellite: u32) -> Result<usize, StoreError>
         ensures { (result ≡ stored file.now satellite self.constants self.state (length out.old))
             × (out.new ≡ output_after result (stored_file file.now satellite self.constants self.state) out.old) }

@@ -7,12 +7,12 @@ use floats::finite::{is_finite, magnitude};
 use floats::remainder::{rem, rem_euclid};
 use floats::root::three_halves;
 use floats::trig::{SinCos, sin_cos};
-use orbit::model::{PI, TAU};
 use orbit::propagator::{Constants, Orbit};
+use std::f64::consts::{PI, TAU};
 
 // The five numbers of the Sun or the Moon at a time. `delta_mean_motion` has the Rust's name: it is
 // a change of mean anomaly, in rad.
-#[derive(Clone, Copy)]
+#[derive(Clone, Copy, Debug, PartialEq)]
 pub struct Periodic {
     pub delta_eccentricity: f64,
     pub delta_inclination: f64,
@@ -22,7 +22,7 @@ pub struct Periodic {
 }
 
 // What is asked: the time in minutes since epoch, p22 and p23, and the lunisolar numbers.
-#[derive(Clone, Copy)]
+#[derive(Clone, Copy, Debug, PartialEq)]
 pub struct Question {
     pub t: f64,
     pub p22: f64,
@@ -32,7 +32,7 @@ pub struct Question {
 }
 
 // The orbit at the time asked, and the numbers that the Rust hands on with it.
-#[derive(Clone, Copy)]
+#[derive(Clone, Copy, Debug, PartialEq)]
 pub struct Elements {
     pub orbit: Orbit,
     pub a: f64,
@@ -53,14 +53,14 @@ pub enum ElementsError {
 }
 
 // Node and perigee at the time asked.
-#[derive(Clone, Copy)]
+#[derive(Clone, Copy, Debug, PartialEq)]
 struct Plane {
     right_ascension: f64,
     argument_of_perigee: f64,
 }
 
 // What is known of the orbit before its size is: sin I and cos I too.
-#[derive(Clone, Copy)]
+#[derive(Clone, Copy, Debug, PartialEq)]
 struct Shape {
     inclination: f64,
     right_ascension: f64,
@@ -121,6 +121,8 @@ fn near_turn(p30: f64, turn: f64) -> f64
 }
 
 // p₂₂ mod 2π in AFSPC compatibility mode, p₂₂ rem 2π otherwise
+// (The flag is a field of the constants, the file's and C's: a closure for this one test would be no
+// plainer.)
 fn low_node(afspc_compatibility_mode: bool, p22: f64) -> f64
     ensures { result ≡ low_node afspc_compatibility_mode p22 }
 {
@@ -258,6 +260,7 @@ fn numbers(c: Constants, q: Question, s: Shape, p29: f64, a: f64, power: f64) ->
     }
 }
 
+// (Chains of `&`, for the reason that `Geopotential::is_finite` gives.)
 impl Periodic {
     // Whether each of the five numbers is finite.
     pub fn is_finite(self) -> bool
@@ -297,9 +300,7 @@ impl Question {
     pub fn is_finite(self) -> bool
         ensures { result ≡ finite_question self }
     {
-        let solar = self.solar;
-        let lunar = self.lunar;
-        is_finite(self.p22) & is_finite(self.p23) & solar.is_finite() & lunar.is_finite()
+        is_finite(self.p22) & is_finite(self.p23) & self.solar.is_finite() & self.lunar.is_finite()
     }
 }
 
@@ -308,8 +309,7 @@ impl Elements {
     pub fn is_finite(self) -> bool
         ensures { result ≡ finite_elements self }
     {
-        let orbit = self.orbit;
-        orbit.is_finite()
+        self.orbit.is_finite()
             & is_finite(self.a)
             & is_finite(self.p32)
             & is_finite(self.p33)
@@ -320,7 +320,7 @@ impl Elements {
 }
 
 impl ElementsError {
-    // The refusal's number.
+    // The refusal's number. (No `From`: `e.number()` says which number it is, by the same body.)
     pub fn number(self) -> u32
         ensures { result ≡ number_of self }
     {

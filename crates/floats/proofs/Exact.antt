@@ -173,9 +173,3 @@ not-lt (fin s m e) (fin t n d) p q = go s t (m * up e * down d) (n * up d * down
     go false true a b = refl
     go true false a b = swap a b
     go true true a b = sym (leb-not a b)
-
--- a magnitude's fraction: the sign bit is clear, or it is a zero
-record Sized (x : Float) (a c : ℕ) : Type 0 where
-  sign : Bool
-  value : HasValue x sign a c
-  plain : sign ≡ true → a ≡ 0

@@ -5,3 +5,4 @@ pub mod Rounding
 pub mod Values
 pub mod Exact
 pub mod Units
+pub mod Ranges

@@ -3,19 +3,18 @@ use mathlib.Core.Path.{◌≡◌, refl, sym, ap, ◌∙◌, subst}
 use Prim.Native.Nat.{ℕ, suc, ◌+◌, ◌-◌, ◌*◌, ◌/◌, ◌%◌, ◌^◌, ◌≤◌, ◌<◌}
 use native.Mathlib.Nat.{le_trans, le_of_eq, lt_irrefl, lt_of_lt_of_le, lt_of_le_of_lt, lt_of_not-le, le_antisymm, mod-lt, mod-le, mod-eq_of_lt, mul-one, mul_assoc, mul_right_comm, mul-le-mul_right, mul-lt-mul_of_pos_right, mul-pos, mul-div_cancel, div-lt_iff_lt-mul}
 use native.Mathlib.Omega.{arith}
-use mathlib.Core.Bool.{Bool, true, false, not, ◌&&◌, cond, true≢false}
+use mathlib.Core.Bool.{Bool, true, false, not, ◌&&◌, cond}
 use lib.IntN.{ℤ, pos}
 use lib.Dec.{T, leb, ltb, eqb, ltb→lt, eqb→eq, not_T, lit≤}
 use lib.Arith.{lt→nleb, le→nltb}
 use lib.Bits.{bit_and, bit_or, and_mask, or_shifted_r}
 use lib.Count.{count_leading_zeros, leading_top}
 use lib.Pow.{pow-add, pow_pos, pow_mono, shl_lt}
-use lib.Ieee.{Float, nan, inf, fin, binary64, up, down, size, odd, fits, is_nan, ne, of_fields, of_bits, nan_bits, to_bits}
+use lib.Ieee.{Float, nan, inf, fin, binary64, up, down, size, odd, fits, of_fields, of_bits, nan_bits, to_bits}
 use lib.Ieee.Digits.{size-lt, size-le}
 use lib.Ieee.Fits.{down_pos, kept-lt, and_r}
 use lib.Ieee.Bits.{is_false, cond_no, nan_bits_above}
 use lib.Ieee.Exact.{HasValue, odd_sign}
-use lib.Ieee.Compare.{nan_differs}
 
 pub pow_lt_back : (i p : ℕ) → 2 ^ i < 2 ^ p → i < p
 pow_lt_back i p h = lt_of_not-le (λ (g : p ≤ i). lt_irrefl (2 ^ i) (lt_of_lt_of_le h (pow_mono g)))
@@ -56,12 +55,6 @@ module _ (g k : ℕ) (lo : 2 ^ 52 ≤ g) (hi : g < 2 ^ 53) where
       ∙ ap (λ (x : ℕ). k * 2 ^ 52 + x) (mul-div_cancel g (pow_pos k))
 
 -- ---- no NaN
-
-pub no_nan : (x : Float) → ne x x ≡ false → T (not (is_nan x))
-unfolding is_nan
-no_nan nan h = absurd (true≢false (sym nan_differs ∙ h))
-no_nan (inf s) h = tt
-no_nan (fin s m e) h = tt
 
 -- no pattern below the infinity's is a NaN's
 pub is_number : (r : ℕ) → r < 2047 * 2 ^ 52 → T (not (nan_bits binary64 r))

@@ -99,11 +99,8 @@ fn along(y: f64, x: f64) -> f64
 pub fn atan2(y: f64, x: f64) -> f64
     ensures { result ≡ arc_of y x }
 {
-    if is_finite(y) & is_finite(x) {
-        if y == 0.0 {
-            return along(y, x);
-        }
-        return pointed(y, x);
+    if !(is_finite(y) & is_finite(x)) {
+        return f64::NAN;
     }
-    0.0 / 0.0
+    if y == 0.0 { along(y, x) } else { pointed(y, x) }
 }

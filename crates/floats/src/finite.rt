@@ -8,7 +8,8 @@ ghost use Rattle.floats.specs.Value.{negative};
 
 use std::num::{f64_from_bits_with_nan, f64_to_bits_with_nan};
 
-// Whether x is neither a NaN nor an infinity.
+// Whether x is neither a NaN nor an infinity: the library's own, with the clause that the crates above
+// cite.
 #[tactic(auto, using(crate::proofs::Values::finite_is))]
 pub fn is_finite(x: f64) -> bool
     ensures { result ≡ finite x }

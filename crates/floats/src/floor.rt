@@ -7,7 +7,7 @@ ghost use Rattle.floats.specs.Floor.{floor_of};
 
 use crate::finite::magnitude;
 
-// 2^52 with the sign of x.
+// 2^52 with the sign of x, by the test that `floor_of` has: `copysign` goes by the sign bit.
 fn far_from(x: f64) -> f64
     ensures { result ≡ cond (lt x (dec 0 0)) (⊝ dec 4503599627370496 0) (dec 4503599627370496 0) }
 {

@@ -72,10 +72,10 @@ fn rest(a: u64, b: u64) -> u64
 pub fn rem(x: f64, m: f64) -> f64
     ensures { result ≡ x rem m }
 {
-    if x != x {
+    if x.is_nan() {
         return x;
     }
-    if m != m {
+    if m.is_nan() {
         return m;
     }
     let bits = x.to_bits();

@@ -11,7 +11,7 @@ use std::f64::consts::{FRAC_2_PI, FRAC_PI_4};
 const ANGLE_LIMIT: f64 = 1048576.0;
 
 // Sine and cosine of one angle, and whether the angle is answered. Not an Option, since ten angles with
-// one refusal, the rates of a half-day orbit, take 8 to 14 % longer by `sin_cos` and `?` (measured).
+// one refusal, the rates of a half-day orbit, take 12 to 19 % longer by `sin_cos` and `?` (measured).
 #[derive(Clone, Copy, Debug, PartialEq)]
 pub struct Wave {
     pub sin: f64,

@@ -10,8 +10,9 @@ use orbit::propagator::Constants;
 use resonance::ask::Answer;
 use resonance::state::ResonanceState;
 
-// The answer and the steps made: what an ask returns beside the state.
-#[derive(Clone, Copy)]
+// The answer and the steps made: what an ask returns beside the state. (An `Asked<()>` would have a state
+// that says nothing.)
+#[derive(Clone, Copy, Debug, PartialEq)]
 pub struct InPlace {
     pub answer: Answer,
     pub steps: u32,

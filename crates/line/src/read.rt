@@ -25,7 +25,7 @@ pub enum LineError {
 }
 
 impl LineError {
-    // The place of a fault in the order above.
+    // The place of a fault in the order above. (No `From`: `e.number()` says which number it is.)
     pub fn number(self) -> u8
         ensures { result ≡ order (Err self) }
     {
@@ -40,7 +40,8 @@ impl LineError {
     }
 }
 
-// The place of an answer's fault in that order; 0 of a line that is read.
+// The place of an answer's fault in that order; 0 of a line that is read. (Public, and its clause cites
+// `order` of specs/, which has the 0 too.)
 pub fn order_of(answer: Result<Numbers, LineError>) -> u8
     ensures { result ≡ order answer }
 {

@@ -35,6 +35,7 @@ pub enum WriteError {
 
 impl WriteError {
     // 19 for a short buffer; a field that does not fit is refused by its name, has no number and gives 255.
+    // (No `From`: `e.number()` says which number it is, by the same body.)
     pub fn number(self) -> u8
         ensures { result ≡ number (Err self) }
     {
@@ -45,7 +46,8 @@ impl WriteError {
     }
 }
 
-// The number of an answer: the refusal's, and 0 where the line is written.
+// The number of an answer: the refusal's, and 0 where the line is written. (Public, and its clause cites
+// `number` of specs/, which has the 0 too.)
 pub fn number(answer: Result<(), WriteError>) -> u8
     ensures { result ≡ number answer }
 {
@@ -78,6 +80,7 @@ impl Name {
 }
 
 // The last digit of x, or a blank where there may be one and x has no digit left.
+// (`may` is a test of the column's place, as `byte_of` of specs/ has it.)
 #[tactic(auto, unfolding(crate::specs::Write::byte_of))]
 fn byte(may: bool, x: u64) -> u8
     ensures { result ≡ byte_of may x }
@@ -114,6 +117,7 @@ fn put_field(line: &mut [u8; 69], f: Field, blanks: usize, x: u64)
 }
 
 // All fields of a line; column 69 is blank. Of each, so many columns are blank before the first digit: at least one digit stands before a point.
+// (One by one, as in `fitted` and in the reader: the numbers are fields of a struct, and a loop would need them as an array first.)
 fn fields(n: Numbers) -> [u8; 69]
     ensures { result ≡ fields_on n }
 {

@@ -18,6 +18,7 @@ pub fn is_one_day(n: f64) -> bool
 }
 
 // Whether the mean motion n and the eccentricity e are those of the resonance of half a day.
+// (Comparisons, as above, where no range of Rust's leaves out its lower end.)
 pub fn is_half_day(n: f64, e: f64) -> bool
     ensures { result ≡ half_day n e }
 {

@@ -6,12 +6,7 @@ use floats::finite::is_finite;
 use floats::floor::floor;
 use floats::power::{cube, square};
 use floats::remainder::rem_euclid;
-
-// π, with the digits of Rust's constant.
-pub const PI: f64 = 3.14159265358979323846264338327950288;
-
-// A whole turn, 2π.
-pub const TAU: f64 = 2.0 * PI;
+use std::f64::consts::{PI, TAU};
 
 // aₑ in km, kₑ in earth radii³ᐟ² min⁻¹, and the zonal harmonics J₂, J₃, J₄.
 #[derive(Clone, Copy, Debug, PartialEq)]
@@ -23,7 +18,8 @@ pub struct Geopotential {
     pub j4: f64,
 }
 
-// The geopotential model recommended by the IAU.
+// The geopotential model recommended by the IAU. (Two functions, as the Rust has: each is its five numbers
+// and no more.)
 pub fn wgs84() -> Geopotential
     ensures { result ≡ wgs84_model }
 {
@@ -63,7 +59,8 @@ impl Geopotential {
     }
 }
 
-// Which of the two expressions gives the sidereal time: the Rust takes a function there.
+// Which of the two expressions gives the sidereal time. The Rust takes a function there; here the clauses
+// of `sidereal_time` and of constants' `build` name the expression (`theta_0`), and so does C's number.
 #[derive(Clone, Copy, Debug, PartialEq, Eq)]
 pub enum SiderealTime {
     Iau,
@@ -78,7 +75,7 @@ pub enum SiderealError {
 }
 
 impl SiderealError {
-    // The number of this refusal.
+    // The refusal's number. (No `From`: `e.number()` says which number it is, by the same body.)
     pub fn number(self) -> u32
         ensures { result ≡ number (Err self) }
     {

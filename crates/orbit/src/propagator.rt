@@ -150,11 +150,8 @@ impl Constants {
     pub fn is_finite(self) -> bool
         ensures { result ≡ finite_constants self }
     {
-        let geopotential = self.geopotential;
-        let orbit_0 = self.orbit_0;
-        let resonant = self.resonant;
-        geopotential.is_finite()
-            & orbit_0.is_finite()
+        self.geopotential.is_finite()
+            & self.orbit_0.is_finite()
             & is_finite(self.right_ascension_dot)
             & is_finite(self.argument_of_perigee_dot)
             & is_finite(self.mean_anomaly_dot)
@@ -164,6 +161,6 @@ impl Constants {
             & is_finite(self.k1)
             & is_finite(self.eccentricity_dot)
             & is_finite(self.inclination_dot)
-            & resonant.is_finite()
+            & self.resonant.is_finite()
     }
 }

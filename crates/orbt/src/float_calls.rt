@@ -1,4 +1,4 @@
-// The float functions, under C's names.
+// The float functions, under C's names: an export to each, also where two differ in their callee alone.
 ghost use Rattle.std.specs.Prelude.{◌≡◌, unwrap_or};
 ghost use Rattle.floats.specs.Root.{sqrt_of, cbrt_of, two_thirds, three_halves, number as root_number};
 ghost use Rattle.floats.specs.Trig.{sine_of, cosine_of, number as trig_number};

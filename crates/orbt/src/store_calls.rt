@@ -1,4 +1,5 @@
 // The calls on a store's file, which is bytes that the caller holds.
+// Kinds, flags, `held` and refusals are numbers, and each parameter stands alone, as C takes them.
 ghost use Rattle.std.specs.Prelude.{◌≡◌};
 ghost use Rattle.std.specs.Result.{result_unwrap_or};
 ghost use Rattle.contents.specs.Find.{counted_in, listed_in, counted_number, listed_number};
@@ -20,6 +21,7 @@ pub extern "C" fn orbt_contents(file: &[u8], count: &mut u32) -> u32
     ensures { (result ≡ counted_number (counted_in file.now))
         × (count.new ≡ result_unwrap_or (counted_in file.now) count.old) }
 {
+    // by a match and not by `put`: a closure of `map` is not told that the count fits 32 bits
     match record_count(file) {
         Ok(n) => {
             *count = n as u32;
@@ -72,6 +74,8 @@ pub extern "C" fn orbt_restore(
             0
         }
         Err(e) => {
+            // as the controller's `steps_before`: a method for these four lines would be public, with a
+            // clause and an edit
             *steps = match e {
                 RestoreError::StateWrong { steps } => steps,
                 _ => 0,

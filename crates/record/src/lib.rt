@@ -101,6 +101,7 @@ pub fn numbers_of(c: Constants) -> [f64; 34]
 }
 
 // What the kind has past the twenty numbers: 1 one-day, 2 half-day, any other non-resonant.
+// (x[20] to x[25] by their places: a pattern for them would have more `_` than names.)
 #[tactic(auto, unfolding(crate::specs::Record::resonant_of))]
 fn resonant_of(kind: u32, x: &[f64; 34]) -> Resonant
     ensures { result ≡ resonant_of kind x.now }

@@ -2,7 +2,8 @@
 ghost use Rattle.std.specs.Prelude.{◌≡◌, ◌+◌, ◌*◌, ◌/◌, ◌%◌, ◌<◌, IfSome};
 ghost use Rattle.replay.specs.Word.{digit_of, value_of};
 
-// The value of a digit.
+// The value of a digit. (`char::to_digit` takes small letters too, and `from_str_radix` a sign as well: no
+// line has them.)
 fn digit(b: u8) -> Option<u64>
     ensures is { result ≡ digit_of b }
     ensures small { IfSome result (λ d. d < 16) }

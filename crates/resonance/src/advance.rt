@@ -24,6 +24,7 @@ impl ResonanceState {
         let back = !(t > 0.0);
         let mut state = self;
         let mut steps = 0u32;
+        // by `while`: the loop ends by a test of floats, and no count of its steps is known before
         while is_due(back, state.t, t) {
             let Some(next) = state.next(c, back) else {
                 return Err(steps);
@@ -39,6 +40,7 @@ impl ResonanceState {
     pub fn advance(self, c: Integrator, t: f64) -> Result<Walked, Refused>
         ensures { result ≡ advance_of c self t }
     {
+        // by a match: with `map_err(|fault| self.refused(fault))?` two goals of the closure stay open (tried)
         match check_times(self.t, t) {
             Err(fault) => Err(self.refused(fault)),
             Ok(()) => self.walk(c, t).or(Err(self.refused(Fault::RatesRefused))),

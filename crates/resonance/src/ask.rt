@@ -9,9 +9,9 @@ use elements::elements::{Elements, ElementsError, Question, elements_at};
 use floats::finite::is_finite;
 use floats::remainder::rem;
 use floats::root::two_thirds;
-use orbit::model::TAU;
 use orbit::propagator::{Constants, Resonance, Resonant};
 use rates::{Integrator, Rates};
+use std::f64::consts::TAU;
 use times::time::{Fault, is_within};
 
 // The answer of an ask. `Err` is refusals 1 to 8: the state comes back as it was given, with no
@@ -19,7 +19,7 @@ use times::time::{Fault, is_within};
 pub type Answer = Result<Result<Elements, ElementsError>, Fault>;
 
 // The answer, the state (`ResonanceState`, or an `Option` of it) and the steps made.
-#[derive(Clone, Copy)]
+#[derive(Clone, Copy, Debug, PartialEq)]
 pub struct Asked<S> {
     pub answer: Answer,
     pub state: S,
@@ -34,6 +34,8 @@ fn theta(sidereal_time_0: f64, t: f64) -> f64
 }
 
 // Refusals 1, 2 and 3: the time, and then every other number given.
+// (`is_state_finite` is a test's answer, true where there is no state. The first two tests are `check_times`'s too: a function for
+// them would be one clause more and no line less.)
 #[tactic(auto, unfolding(crate::specs::Ask::numbers_refusal))]
 fn check_numbers(c: Constants, q: Question, is_state_finite: bool) -> Result<(), Fault>
     ensures { result ≡ numbers_refusal c q is_state_finite }
@@ -144,6 +146,7 @@ impl ResonanceState {
         else {
             return self.given(Fault::OrbitNonResonant);
         };
+        // (written out in `step` and in body's `replay_held` too: of the three, two take one field more from the same pattern)
         let integrator = Integrator {
             argument_of_perigee_0: c.orbit_0.argument_of_perigee,
             lambda_dot_0,

@@ -120,7 +120,7 @@ impl ResonanceState {
         next.is_finite().then_some(next)
     }
 
-    // The state one step on, or none where 8 arises.
+    // The state one step on, or none where 8 arises. (`back` gives Δt its sign, here and below.)
     #[tactic(auto, unfolding(crate::specs::State::step_of))]
     pub fn next(self, c: Integrator, back: bool) -> Option<ResonanceState>
         ensures { result ≡ step_of c back self }
@@ -178,7 +178,7 @@ impl ResonanceState {
     }
 }
 
-// The fresh state of the constants, whatever the state is, or whether there is one.
+// The fresh state of the constants, whatever the state is, or whether there is one: that it is not looked at is the promise.
 pub fn reset(_state: Option<ResonanceState>, constants: Constants) -> Option<ResonanceState>
     ensures { result ≡ fresh constants }
 {

@@ -5,6 +5,7 @@ use elements::elements::{Elements, ElementsError};
 use floats::finite::bits_of;
 use resonance::ask::Answer;
 
+// Padded here: with a width, std writes the spaces apart, and each write may fail and is told of.
 const NAMES: [&str; 12] = [
     "inclination          ",
     "right ascension      ",
@@ -20,7 +21,8 @@ const NAMES: [&str; 12] = [
     "p36                  ",
 ];
 
-// The twelve numbers, in the order of their names.
+// The twelve numbers, in the order of their names, which is this program's. (`are_same` wants them without
+// the names.)
 fn numbers(e: Elements) -> [f64; 12] {
     let orbit = e.orbit;
     [

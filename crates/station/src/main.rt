@@ -69,6 +69,7 @@ fn parsed<T, F: FnOnce(&[u8]) -> Option<T>>(
 ) -> Option<T>
     requires { F.IsAlwaysCallable parse }
 {
+    // fixed: a longer argument is refused by this size
     let mut room = [0u8; 256];
     let word = argument(rt, i, &mut room);
     let value = parse(word);
@@ -125,6 +126,7 @@ fn periodic(x: [f64; 5]) -> Periodic {
 }
 
 // An ask or a save, of so many arguments.
+// (By their places: a pattern of thirteen would name the ten only to list them again.)
 fn order_of(rt: &(impl Streams + Env), count: usize) -> Option<Order> {
     let satellite = satellite_at(rt, 3)?;
     let x = numbers_from_t(rt, count)?;
@@ -190,6 +192,7 @@ fn bytes_of<'a>(rt: &(impl Streams + Files), path: &str, room: &'a mut [u8]) -> 
 // Does what a word says, which has so many arguments with it and the program's name; none where it is given
 // up, and then it has said why.
 fn obey<R: Streams + Files + Env + Alloc>(rt: &R, word: &[u8], count: usize) -> Option<()> {
+    // fixed: a longer name, and a longer file, are refused by these sizes
     let mut name = [0u8; 4096];
     let mut room = [0u8; 65536];
     match (word, count) {
@@ -223,6 +226,7 @@ fn run<R: Streams + Files + Env + Alloc>(rt: &R) {
         restart::show(rt);
         return;
     }
+    // fixed: a longer word is no command
     let mut word = [0u8; 16];
     let _ = obey(rt, argument(rt, 1, &mut word), count);
 }

@@ -87,9 +87,8 @@ fn ask_restored(rt: &impl Streams, r: Resumed, asked: Asked) -> Reply {
 }
 
 fn put_moved(rt: &impl Streams, t: f64, reply: Reply) {
-    let controller = reply.controller;
     let state = State {
-        state: controller.state(),
+        state: reply.controller.state(),
         steps: reply.steps,
     };
     put(rt, OUT, format_args!("asked at {}: {state}\n", Minutes(t)));
@@ -115,7 +114,8 @@ fn put_unchanged(rt: &impl Streams) {
     put(rt, ERR, "station: the file is as it was\n");
 }
 
-// The new bytes take the place of the old file, by way of the file beside; or it says why not.
+// Whether the new bytes took the place of the old file, by way of the file beside. (A bool: why not has
+// been said by then, of the one file or of the other.)
 fn is_replaced<R: Streams + Files>(rt: &R, path: &str, beside: &str, bytes: &[u8]) -> bool {
     if let Err(why) = make(rt, beside, bytes) {
         fail_beside(rt, beside, why);
@@ -152,6 +152,7 @@ fn save_moved<R: Streams + Files + Alloc>(
     satellite: u32,
     controller: Controller,
 ) {
+    // fixed: a Vec may fail, and what the program says then would be new
     let mut room = [0u8; 65536];
     match controller.save(file, &mut room, satellite) {
         Ok(size) => write_over(rt, path, &room[..size.min(room.len())]),
@@ -186,6 +187,7 @@ fn with_record<'a>(file: &[u8], room: &'a mut [u8], satellite: u32, set: Set) ->
 
 // A store of the three published orbits, fresh, in the room.
 fn published(room: &mut [u8]) -> Option<&[u8]> {
+    // fixed: a Vec may fail, and what the program says then would be new
     let mut one = [0u8; 1024];
     let mut two = [0u8; 1024];
     let first = with_record(EMPTY, &mut one, 8195, MOLNIYA)?;
@@ -195,6 +197,7 @@ fn published(room: &mut [u8]) -> Option<&[u8]> {
 
 // Makes a store of the three published orbits. A file that is there is left alone.
 pub fn example<R: Streams + Files>(rt: &R, path: &str) {
+    // fixed, as in `published`
     let mut room = [0u8; 1024];
     let Some(bytes) = published(&mut room) else {
         put(

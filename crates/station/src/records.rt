@@ -7,7 +7,7 @@ use body::read::{is_shaped, read_body, state_start};
 use contents::find::{FindError, Span, find, record_count, satellite_at};
 use contents::format::FileWrong;
 use floats::finite::magnitude;
-use record::kind_of;
+use orbit::propagator::{Resonance, Resonant};
 use resonance::state::ResonanceState;
 use std::fmt;
 use std::fmt::{Display, Formatter, Write};
@@ -70,10 +70,16 @@ impl Display for Good {
             state,
             steps,
         } = self.0;
-        let kind = match kind_of(constants) {
-            0 => "non-resonant",
-            1 => "one-day",
-            _ => "half-day",
+        let kind = match constants.resonant {
+            Resonant::No { .. } => "non-resonant",
+            Resonant::Yes {
+                resonance: Resonance::OneDay { .. },
+                ..
+            } => "one-day",
+            Resonant::Yes {
+                resonance: Resonance::HalfDay { .. },
+                ..
+            } => "half-day",
         };
         let flag = if constants.afspc_compatibility_mode {
             ", AFSPC flag on, "
@@ -124,6 +130,8 @@ pub fn tell_long(rt: &impl Streams, satellite: u32, body: &[u8]) {
     }
 }
 
+// A refusal as the rest of a line among the answers. (`refuse` has another stream and no word before it:
+// one function would take both.)
 fn put_bad(rt: &impl Streams, number: u32) {
     put(rt, OUT, format_args!("BAD, {}\n", Refusal(number)));
 }
@@ -132,10 +140,14 @@ fn put_bad(rt: &impl Streams, number: u32) {
 fn put_examined(rt: &impl Streams, examined: Result<Record, BodyError>) {
     match examined {
         Ok(record) => put(rt, OUT, format_args!("{}\n", Good(record))),
-        Err(BodyError::StateWrong { steps }) => put(
+        Err(error @ BodyError::StateWrong { steps }) => put(
             rt,
             OUT,
-            format_args!("BAD, {} (after {})\n", Refusal(18), Steps(steps)),
+            format_args!(
+                "BAD, {} (after {})\n",
+                Refusal(error.number()),
+                Steps(steps)
+            ),
         ),
         Err(error) => put_bad(rt, error.number()),
     }
@@ -187,6 +199,8 @@ fn check_all(rt: &impl Streams, file: &[u8], n: usize) {
     put(rt, OUT, format_args!("{n}{words}"));
 }
 
+// (`check` and `list` differ in what is done with the count: with a closure for it they would be no shorter
+// than the two matches.)
 // Each record of a store, a line to each as it is done.
 pub fn check(rt: &impl Streams, file: &[u8]) {
     match record_count(file) {

@@ -86,6 +86,7 @@ fn resume(rt: &impl Streams, fresh: Controller, file: &[u8]) -> Controller {
 
 // The old controller is saved into the empty store, and given up for one that is restored from it.
 fn restart(rt: &impl Streams, old: Controller, fresh: Controller) -> Controller {
+    // fixed: a Vec may fail, and what the program says then would be new
     let mut room = [0u8; 512];
     match old.save(EMPTY, &mut room, SATELLITE) {
         Ok(size) => {

@@ -17,7 +17,7 @@ pub enum RestoreError {
 }
 
 impl RestoreError {
-    // The refusal's number.
+    // The refusal's number. (No `From`: `e.number()` says which number it is, by the same body.)
     pub fn number(self) -> u32
         ensures { result ≡ number_of_answer (Err self) }
     {

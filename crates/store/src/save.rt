@@ -23,7 +23,7 @@ pub enum StoreError {
 }
 
 impl StoreError {
-    // The refusal's number.
+    // The refusal's number. (No `From`: `e.number()` says which number it is, by the same body.)
     pub fn number(self) -> u32
         ensures { result ≡ number_of_answer (Err self) }
     {
@@ -56,6 +56,7 @@ impl From<SaveError> for StoreError {
 }
 
 // The number of a save's answer: the refusal's, and 0 where the new file was written.
+// (Public, and its clause cites `number` of specs/, which has the 0 too.)
 pub fn number(answer: Result<usize, StoreError>) -> u32
     ensures { result ≡ number_of_answer answer }
 {
@@ -73,6 +74,7 @@ fn is_resonant(c: Constants) -> bool
 }
 
 // Writes the old file with the record of a satellite added or replaced into `out`. Returns the length of the new file.
+// (File, room and satellite one by one, for the reason that contents::save gives.)
 #[tactic(auto, unfolding(crate::specs::Save::stored))]
 pub fn save(
     file: &[u8],

@@ -24,7 +24,7 @@ pub enum Fault {
 }
 
 impl Fault {
-    // The refusal's number.
+    // The refusal's number. (No `From`: `e.number()` says which number it is, by the same body.)
     pub fn number(self) -> u32
         ensures { result ≡ fault_number self }
     {
@@ -84,6 +84,8 @@ pub fn check_times(s: f64, t: f64) -> Result<(), Fault>
 }
 
 // Δt: 720 min, or -720 min going back.
+// (`back`, here and in crate resonance, is the answer of a test of times, and C's number: it gives a sign,
+// and picks no step.)
 pub fn delta_t(back: bool) -> f64
     ensures { result ≡ delta back }
 {

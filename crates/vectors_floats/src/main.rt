@@ -82,6 +82,8 @@ fn passes(line: &[u8]) -> Option<bool> {
     })
 }
 
+// (Its like is in vectors_orbit: in the library they share, the loop would need a clause on the closure
+// that judges a line.)
 fn replay(rt: &impl Print, text: &[u8]) -> io::Result<()> {
     let mut tally = Tally::default();
     for line in text.split(|b| *b == b'\n') {
@@ -93,6 +95,7 @@ fn replay(rt: &impl Print, text: &[u8]) -> io::Result<()> {
     println!(rt; "floats {passed} passed of {total}")
 }
 
+// The same four lines in three programs: they take the heap, which the library that these share may not.
 fn main(rt: HostRuntime) -> io::Result<()> {
     let mut text = Vec::new(rt.alloc());
     let file = fs::open(&rt, "floats.txt")?;

@@ -1,19 +1,11 @@
 // The words of a record.
 use line::fields::Numbers;
+use replay::word::value;
 use std::ops::Range;
-use std::str;
 
-// The number that stands there in hexadecimal digits, 0 to 9 and A to F.
+// The number that stands there in hexadecimal digits, 0 to 9 and A to F. No word of a record is empty, which would be 0, or has above 16.
 pub fn hex(line: &[u8], at: Range<usize>) -> Option<u64> {
-    let digits = line.get(at)?;
-    // a sign and small letters, which from_str_radix takes, are of no record
-    if !digits
-        .iter()
-        .all(|b| matches!(b, b'0'..=b'9' | b'A'..=b'F'))
-    {
-        return None;
-    }
-    u64::from_str_radix(str::from_utf8(digits).ok()?, 16).ok()
+    value(line.get(at)?)
 }
 
 // The same as a number of 32 bits. What is none is one that no field has.

@@ -11,21 +11,16 @@ fn is_kept(out: &[u8], from: usize) -> bool {
 }
 
 // w: room, eight numbers, and what a write answers: D and the line, S for 19, or the place of a field.
-pub fn is_written(line: &[u8]) -> bool {
-    let Some(room @ 0..=100) = hex(line, 2..4) else {
-        return false;
-    };
-    let Some(words) = line.get(5..92) else {
-        return false;
-    };
+pub fn is_written(line: &[u8]) -> Option<bool> {
     let mut out = [FRESH; 100];
-    match write(numbers(words), &mut out[..room as usize]) {
+    let room = out.get_mut(..hex(line, 2..4)? as usize)?;
+    Some(match write(numbers(line.get(5..92)?), room) {
         Ok(()) => {
             line.get(93) == Some(&b'D') && line.get(94..163) == out.get(..69) && is_kept(&out, 69)
         }
         Err(WriteError::OutputShort) => line.get(93) == Some(&b'S') && is_kept(&out, 0),
         Err(WriteError::DoesNotFit(name)) => {
-            hex(line, 93..94) == Some(u64::from(name.place())) && is_kept(&out, 0)
+            hex(line, 93..94)? == u64::from(name.place()) && is_kept(&out, 0)
         }
-    }
+    })
 }

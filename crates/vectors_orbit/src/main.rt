@@ -34,7 +34,7 @@ fn float(word: Word) -> f64 {
     word.map_or(f64::NAN, of_bits)
 }
 
-// The kind of constants. Any number above 2 is 0.
+// The kind of constants, a number as `constants_of` takes it. Any above 2 is 0.
 fn kind(word: Word) -> u32 {
     match word {
         Some(1) => 1,
@@ -58,6 +58,7 @@ fn split_floats<const N: usize>(words: &[Word]) -> Option<([f64; N], &[Word])>
     Some((floats.map(float), rest))
 }
 
+// (Lists here and below in the order of the file; C's is the same, but is C's to change.)
 fn split_geopotential(words: &[Word]) -> Option<(Geopotential, &[Word])> {
     let ([ae, ke, j2, j3, j4], rest) = split_floats::<5>(words)?;
     Some((Geopotential { ae, ke, j2, j3, j4 }, rest))
@@ -196,6 +197,7 @@ fn told_state(s: ResonanceState) -> [Word; 3] {
 }
 
 // 1 and the state, or 0 and three zeros.
+// (Its like over plain numbers is in vectors_store: `replay`, which both share, knows no states.)
 fn told_maybe_state(state: Option<ResonanceState>) -> [Word; 4] {
     match state {
         None => [Some(0); 4],
@@ -366,6 +368,8 @@ fn passes(alloc: Global, line: &[u8]) -> Result<bool, AllocError> {
     Ok(after_case(name, &words).is_some_and(|rest| rest.is_empty()))
 }
 
+// (Its like is in vectors_floats: in the library they share, the loop would need a clause on the closure
+// that judges a line.)
 fn replay<R: Print + AllocGlobal>(rt: &R, text: &[u8]) -> io::Result<()> {
     let mut tally = Tally::default();
     for line in text.split(|b| *b == b'\n') {
@@ -377,6 +381,7 @@ fn replay<R: Print + AllocGlobal>(rt: &R, text: &[u8]) -> io::Result<()> {
     println!(rt; "orbit {passed} passed of {total}")
 }
 
+// The same four lines in three programs: they take the heap, which the library that these share may not.
 fn main(rt: HostRuntime) -> io::Result<()> {
     let mut text = Vec::new(rt.alloc());
     let file = fs::open(&rt, "orbit.txt")?;

@@ -106,6 +106,7 @@ fn is_told(record: &[u64; 40], c: Constants, state: Option<ResonanceState>) -> O
 }
 
 // ---- one case: whether the call answers what the words tell, and None where they tell no case
+// (File, record and words come one by one: `cut`, `byte` and `eight` hand on another file and other words.)
 
 // Whether a restore answers what words say: satellite; refusal, steps.
 fn restore_passes(file: &[u8], record: Option<[u64; 40]>, words: &[u64]) -> Option<bool> {
@@ -252,6 +253,7 @@ fn replay<R: Print + AllocGlobal>(rt: &R, text: &[u8]) -> io::Result<()> {
     println!(rt; "store {passed} of {total}")
 }
 
+// The same four lines in three programs: they take the heap, which the library that these share may not.
 fn main(rt: HostRuntime) -> io::Result<()> {
     let mut text = Vec::new(rt.alloc());
     let file = fs::open(&rt, "store.txt")?;

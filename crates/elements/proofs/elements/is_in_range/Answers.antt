@@ -3,7 +3,7 @@ use mathlib.Core.Path.{◌∙◌}
 use lib.Ieee.{of_bits, round, neg}
 use Rattle.floats.specs.Rounded.{dec}
 use Rattle.elements.specs.Elements.{in_range}
-use Rattle.elements.proofs.Ranges.{partial_le-floats, partial_lt-floats}
+use Rattle.floats.proofs.Ranges.{partial_le-floats, partial_lt-floats}
 use Rattle.elements.proofs.elements.is_in_range.Goals as goal
 
 pub returns : goal.returns

@@ -3,7 +3,7 @@ use mathlib.Core.Path.{◌∙◌}
 use lib.Ieee.{of_bits, round}
 use Rattle.floats.specs.Rounded.{dec}
 use Rattle.elements.specs.Elements.{in_unit}
-use Rattle.elements.proofs.Ranges.{partial_le-floats}
+use Rattle.floats.proofs.Ranges.{partial_le-floats}
 use Rattle.elements.proofs.elements.is_in_unit.Goals as goal
 
 pub returns : goal.returns

@@ -1,17 +1,15 @@
 -- `floats::remainder::rem` meets its contract: of two finite floats, the second no zero, it is the remainder of their units. Assumes nothing.
-use mathlib.Core.Path.{◌≡◌, sym, ap, ◌∙◌, subst}
-use mathlib.Core.Bool.{Bool, not, cond}
+use mathlib.Core.Path.{◌≡◌, refl, sym, ap, ◌∙◌, subst}
+use mathlib.Core.Bool.{Bool, true, not, cond, false≢true}
 use Prim.Native.Nat.{ℕ, ◌+◌, ◌-◌, ◌*◌, ◌/◌, ◌%◌, ◌^◌, ◌<◌, ◌≤◌}
 use native.Mathlib.Omega.{arith}
 use lib.Dec.{T}
 use lib.Arith.{le→nltb}
 use lib.Pow.{pow_pos}
-use lib.Ieee.{Float, binary64, fits, of_bits, to_bits, rem}
+use lib.Ieee.{Float, nan, inf, fin, is_nan, binary64, fits, of_bits, to_bits, rem}
 use lib.Ieee.Bits.{of_bits-fits, to_bits-lt, nan_bits_above}
-use lib.Ieee.Compare.{differs_from_itself}
 use lib.Ieee.Exact.{HasValue}
 use Rattle.floats.specs.Remainder.{sig_of, units_of}
-use Rattle.floats.proofs.Patterns.{no_nan}
 use Rattle.floats.proofs.Units.{rem-left, rem-right, rem-endless, rem-far, rem-zero, rem-units, Split, split-of, split-value, split-endless, low_bits, units-is, units-zero, units-some, sig-few, valued}
 use Rattle.floats.proofs.remainder.rem.Goals.{Start, Else-b-eq0, Else-b-ge9218868437227405312, Else-a-ge9218868437227405312}
 use Rattle.floats.proofs.remainder.rem.Goals as goal
@@ -23,21 +21,27 @@ held-x c = subst T (sym c.well_formed.0.1) tt
 held-m : (c : Start) → T (fits binary64 c.args.m)
 held-m c = subst T (sym c.well_formed.1.0.1) tt
 
-pub returns-then-x : goal.returns-then-x
-returns-then-x c =
-    let e = differs_from_itself c.args.x (subst T (sym c.if-x.true) tt) in
+only_nan : (x : Float) → true ≡ is_nan x → x ≡ nan
+unfolding is_nan
+only_nan nan h = refl
+only_nan (inf s) h = absurd (false≢true (sym h))
+only_nan (fin s m e) h = absurd (false≢true (sym h))
+
+pub returns-then-is_nan : goal.returns-then-is_nan
+returns-then-is_nan c =
+    let e = only_nan c.args.x c.if-is_nan.ensures.value in
     e ∙ rem-left c.args.m ∙ ap (λ (z : Float). rem binary64 z c.args.m) (sym e)
 
-pub returns-then-m : goal.returns-then-m
-returns-then-m c =
-    let e = differs_from_itself c.args.m (subst T (sym c.if-m.true) tt) in
+pub returns-then-is_nan-2 : goal.returns-then-is_nan-2
+returns-then-is_nan-2 c =
+    let e = only_nan c.args.m c.if-is_nan-2.ensures.value in
     e ∙ rem-right c.args.x ∙ ap (rem binary64 c.args.x) (sym e)
 
 pub float_to_bits-bits : goal.float_to_bits-bits
-float_to_bits-bits c = no_nan c.args.x c.if-x.false
+float_to_bits-bits c = subst (λ (b : Bool). T (not b)) c.if-is_nan.ensures.value tt
 
 pub float_to_bits-b : goal.float_to_bits-b
-float_to_bits-b c = no_nan c.args.m c.if-m.false
+float_to_bits-b c = subst (λ (b : Bool). T (not b)) c.if-is_nan-2.ensures.value tt
 
 pub returns-then-a-ge9218868437227405312 : goal.returns-then-a-ge9218868437227405312
 returns-then-a-ge9218868437227405312 c =
@@ -52,7 +56,7 @@ returns-then-b-ge9218868437227405312 c =
     let at = goal.at.returns-then-b-ge9218868437227405312 c in
     let s = split-of c.args.x (held-x at.Start) in
     let t = split-of c.args.m (held-m at.Start) in
-    rem-far c.args.x c.args.m s.sign (units_of (low_bits c.args.x)) (2 ^ 1074) (x-value at.Else-a-ge9218868437227405312 s) (no_nan c.args.m c.if-m.false) (split-endless c.args.m t c.if-b-ge9218868437227405312.true)
+    rem-far c.args.x c.args.m s.sign (units_of (low_bits c.args.x)) (2 ^ 1074) (x-value at.Else-a-ge9218868437227405312 s) (subst (λ (b : Bool). T (not b)) c.if-is_nan-2.ensures.value tt) (split-endless c.args.m t c.if-b-ge9218868437227405312.true)
 
 pub returns-then-b-eq0 : goal.returns-then-b-eq0
 returns-then-b-eq0 c =

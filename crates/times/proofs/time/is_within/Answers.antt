@@ -4,7 +4,8 @@ use mathlib.Core.Bool.{true, false}
 use lib.IntN.{pos}
 use lib.Ieee.{fin, le, of_bits, neg}
 use Rattle.floats.proofs.Values.{between}
-use Rattle.times.proofs.Compared.{partial_le-floats, and-comm}
+use Rattle.floats.proofs.Ranges.{partial_le-floats}
+use Rattle.times.proofs.Compared.{and-comm}
 use Rattle.times.proofs.time.is_within.Goals as goal
 
 pub returns : goal.returns
