@@ -24,6 +24,8 @@ fn passes(line: &[u8]) -> Option<bool> {
     }
 }
 
+// (Its like is in vectors_floats: in the library they share, the loop would need a clause on the closure
+// that judges a line.)
 fn replay(rt: &impl Print, text: &[u8]) -> io::Result<()> {
     let mut tally = Tally::default();
     for line in text.split(|b| *b == b'\n') {
