@@ -1,6 +1,6 @@
 // The calls on orbits. Constants travel as their kind, the AFSPC flag and 34 floats in the order of a
-// store's body; a state as its three floats; a question as 13 floats. Kinds, flags and `held` are
-// numbers, with their pointers beside them, as C takes them.
+// store's body; a state as its three floats; a question as 13 floats. Kinds, flags, `held` and
+// refusals are numbers, with their pointers beside them, as C takes them.
 // Lists are made and taken apart by functions here: a `From` could stand in the types' crates alone, and
 // the order is C's.
 ghost use Rattle.std.specs.Prelude.{false, ◌≡◌, ◌+◌, ◌≤◌};

@@ -35,6 +35,7 @@ pub fn fail_beside(rt: &impl Streams, beside: &str, why: io::Error) {
 }
 
 fn has_more(file: &mut impl Read) -> bool {
+    // fixed: one byte tells whether there is more
     let mut one = [0u8; 1];
     file.read(&mut one).is_ok_and(|n| n > 0)
 }

@@ -46,6 +46,7 @@ and with no exponent, or 0x and the 16 hexadecimal digits of its bits.
 // ---- the arguments
 
 // How many arguments there are, the program's own name among them, counted to one too many.
+// (A room of one byte: whether the argument is there is asked, not what it says.)
 fn argument_count(rt: &impl Env) -> usize {
     (0..MOST + 1)
         .take_while(|i| !matches!(rt.arg(*i, &mut [0u8; 1]), Err(FillError::NotPresent)))
