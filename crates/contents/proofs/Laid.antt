@@ -3,9 +3,8 @@ use mathlib.Core.Path.{◌≡◌, sym, ap, ◌∙◌}
 use mathlib.Core.List.{List, [], ◌++◌, append_assoc, append-nil}
 use Prim.Native.Nat.{ℕ, ◌+◌, ◌≤◌, ◌<◌}
 use native.Mathlib.Nat.{add_assoc, zero-add, add-zero}
-use borrow.Rule.Slice.PartMut.{put_mid}
 use lib.ListN.{take-append-drop, length, take, drop, length-append}
-use lib.Seq.{take_at, drop_at, length-take-le, drop-drop}
+use lib.Seq.{take_at, drop_at, length-take-le, drop-drop, paste, take-length}
 use borrow.Author.Tests.{le-leb, lt-leb}
 use Rattle.contents.specs.Laid.{laid, laid_inside}
 
@@ -35,10 +34,10 @@ pub laid-front : (bs l : List ℕ) → laid 0 bs l ≡ bs ++ drop (length bs) l
 unfolding laid
 laid-front bs l = simp (zero-add)
 
--- the library's copy
-pub put_mid-laid : (at k : ℕ) (l : List ℕ) {bs xs : List ℕ} → k ≡ length bs → xs ≡ bs → put_mid at k l xs ≡ laid at bs l
+-- a copy that is done
+pub paste-laid : (at : ℕ) (s l : List ℕ) → paste l at s (length s) ≡ laid at s l
 unfolding laid
-put_mid-laid at k l h e = simp (h, e, append_assoc, drop-drop)
+paste-laid at s l = simp take-length
 
 -- one after another: what was laid goes on
 pub laid_then : (at q : ℕ) (xs ys l : List ℕ) {l₁ l₂ : List ℕ} → at ≤ length l → l₁ ≡ laid at xs l → q ≡ at + length xs → l₂ ≡ laid q ys l₁

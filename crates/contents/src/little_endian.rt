@@ -53,10 +53,12 @@ pub fn put_u64(out: &mut [u8], at: usize, x: u64)
     }
 }
 
-// Writes all of `src` at `at`.
+// Writes all of `src` at `at`. (One by one: `copy_from_slice` calls `memmove`, which a host of the C library need not have.)
 pub(crate) fn put_bytes(out: &mut [u8], at: usize, src: &[u8])
     requires { at + length src.now ≤ length out.old }
     ensures { out.new ≡ laid at src.now out.old }
 {
-    out[at..at + src.len()].copy_from_slice(src);
+    for (i, byte) in src.iter().enumerate() {
+        out[at + i] = *byte;
+    }
 }

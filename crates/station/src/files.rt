@@ -22,7 +22,7 @@ pub fn fail(rt: &impl Streams, name: &[u8], why: io::Error) {
     put(rt, ERR, format_args!(": {}\n", reason(text.as_str())));
 }
 
-// Says why the file beside cannot be made or written.
+// Says why the file beside cannot be made.
 pub fn fail_beside(rt: &impl Streams, beside: &str, why: io::Error) {
     fail(rt, beside.as_bytes(), why);
     if why.kind() == ErrorKind::AlreadyExists {
@@ -40,42 +40,55 @@ fn has_more(file: &mut impl Read) -> bool {
     file.read(&mut one).is_ok_and(|n| n > 0)
 }
 
-// How many bytes of the room a file fills in one read; none where it has more.
-pub fn read<R: Files>(rt: &R, path: &str, room: &mut [u8]) -> io::Result<Option<usize>> {
+// The bytes that a file fills the room with in one read; none where it has more.
+pub fn read<'a, R: Files>(rt: &R, path: &str, room: &'a mut [u8]) -> io::Result<Option<&'a [u8]>> {
     let mut file = fs::open(rt, path)?;
     let n = file.read(room)?;
     if has_more(&mut file) {
         Ok(None)
     } else {
-        Ok(Some(n))
+        Ok(Some(&room[..n]))
     }
 }
 
-// All the bytes, on disk, and the file closed.
-fn write_whole<F: OpenFile + Write + Drop>(mut file: F, bytes: &[u8]) -> io::Result<()> {
-    file.write_all(bytes)?;
-    file.sync_all()
-}
-
-// Makes a file with these bytes. A name that is taken is refused, and nothing is left of a file that could
-// not be written whole.
-pub fn make<R: Files>(rt: &R, path: &str, bytes: &[u8]) -> io::Result<()> {
-    let file = OpenOptions::new()
+// A new file to write. A name that is taken is refused.
+pub fn create<R: Files>(rt: &R, path: &str) -> io::Result<R::File> {
+    OpenOptions::new()
         .write(true)
         .create_new(true)
-        .open(rt, path)?;
-    let written = write_whole(file, bytes);
-    if written.is_err() {
-        let _ = fs::remove_file(rt, path);
-    }
-    written
+        .open(rt, path)
 }
 
-// The file beside takes the place of the old one, or goes.
-pub fn swap<R: Files>(rt: &R, path: &str, beside: &str) -> io::Result<()> {
-    let renamed = fs::rename(rt, beside, path);
-    if renamed.is_err() {
-        let _ = fs::remove_file(rt, beside);
+// Whether all the bytes are in the file, on disk. Why not is said before the file is closed.
+fn is_whole<F: OpenFile + Write + Drop>(
+    rt: &impl Streams,
+    mut file: F,
+    path: &str,
+    bytes: &[u8],
+) -> bool {
+    let written = file.write_all(bytes).and_then(|()| file.sync_all());
+    if let Err(why) = written {
+        fail(rt, path.as_bytes(), why);
     }
-    renamed
+    written.is_ok()
+}
+
+// Whether a new file has these bytes. Why not is said, and then nothing is left of one that could not be
+// written whole.
+pub fn is_filled<R: Streams + Files>(rt: &R, file: R::File, path: &str, bytes: &[u8]) -> bool {
+    if is_whole(rt, file, path, bytes) {
+        return true;
+    }
+    let _ = fs::remove_file(rt, path);
+    false
+}
+
+// Whether the file beside took the place of the old one. If not, it says why, and then the file beside goes.
+pub fn is_swapped<R: Streams + Files>(rt: &R, path: &str, beside: &str) -> bool {
+    if let Err(why) = fs::rename(rt, beside, path) {
+        fail(rt, path.as_bytes(), why);
+        let _ = fs::remove_file(rt, beside);
+        return false;
+    }
+    true
 }

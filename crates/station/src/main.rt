@@ -172,7 +172,7 @@ fn path_of<'a>(rt: &(impl Streams + Env), room: &'a mut [u8]) -> Option<&'a str>
 // records has at most 40,456 bytes, and a file on disk comes whole in one read.
 fn bytes_of<'a>(rt: &(impl Streams + Files), path: &str, room: &'a mut [u8]) -> Option<&'a [u8]> {
     match files::read(rt, path, room) {
-        Ok(Some(n)) => room.get(..n),
+        Ok(Some(bytes)) => Some(bytes),
         Ok(None) => {
             put(
                 rt,

@@ -1,6 +1,6 @@
 // Asks and saves of a satellite of a store, and a store to try them on.
 use crate::answer::{elements_of, put_elements};
-use crate::files::{fail, fail_beside, make, swap};
+use crate::files::{create, fail, fail_beside, is_filled, is_swapped};
 use crate::question::at_time;
 use crate::records::{Good, Minutes, State, body_of, refuse_file, tell_long};
 use crate::say::{ERR, OUT, Streams, put, refuse};
@@ -117,15 +117,13 @@ fn put_unchanged(rt: &impl Streams) {
 // Whether the new bytes took the place of the old file, by way of the file beside. (A bool: why not has
 // been said by then, of the one file or of the other.)
 fn is_replaced<R: Streams + Files>(rt: &R, path: &str, beside: &str, bytes: &[u8]) -> bool {
-    if let Err(why) = make(rt, beside, bytes) {
-        fail_beside(rt, beside, why);
-        return false;
+    match create(rt, beside) {
+        Ok(file) => is_filled(rt, file, beside, bytes) && is_swapped(rt, path, beside),
+        Err(why) => {
+            fail_beside(rt, beside, why);
+            false
+        }
     }
-    if let Err(why) = swap(rt, path, beside) {
-        fail(rt, path.as_bytes(), why);
-        return false;
-    }
-    true
 }
 
 fn write_over<R: Streams + Files + Alloc>(rt: &R, path: &str, bytes: &[u8]) {
@@ -207,8 +205,12 @@ pub fn example<R: Streams + Files>(rt: &R, path: &str) {
         );
         return;
     };
-    match make(rt, path, bytes) {
-        Ok(()) => put_saved(rt, path),
+    match create(rt, path) {
+        Ok(file) => {
+            if is_filled(rt, file, path, bytes) {
+                put_saved(rt, path);
+            }
+        }
         Err(why) => fail(rt, path.as_bytes(), why),
     }
 }

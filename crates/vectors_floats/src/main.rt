@@ -95,7 +95,7 @@ fn replay(rt: &impl Print, text: &[u8]) -> io::Result<()> {
     println!(rt; "floats {passed} passed of {total}")
 }
 
-// The same four lines in three programs: they take the heap, which the library that these share may not.
+// The same four lines in four programs: they take the heap, which the library that these share may not.
 fn main(rt: HostRuntime) -> io::Result<()> {
     let mut text = Vec::new(rt.alloc());
     let file = fs::open(&rt, "floats.txt")?;

@@ -33,7 +33,8 @@ fn number(word: &[u8]) -> Option<u64> {
 
 // The numbers of at most 40 words.
 fn read_numbers(alloc: Global, words: &[u8]) -> Result<Option<Vec<u64>>, AllocError> {
-    let numbers: Option<Vec<u64>> = words.split(|b| *b == b' ').map(number).collect(alloc)?;
+    let words = words.split(|b| *b == b' ').take(41);
+    let numbers: Option<Vec<u64>> = words.map(number).collect(alloc)?;
     Ok(numbers.filter(|n| n.len() <= 40))
 }
 
@@ -45,7 +46,7 @@ fn byte(digits: &[u8]) -> Option<u8> {
 
 // At most 4096 bytes, two digits each.
 fn read_bytes(alloc: Global, digits: &[u8]) -> Result<Option<Vec<u8>>, AllocError> {
-    let bytes: Option<Vec<u8>> = digits.chunks(2).map(byte).collect(alloc)?;
+    let bytes: Option<Vec<u8>> = digits.chunks(2).take(4097).map(byte).collect(alloc)?;
     Ok(bytes.filter(|b| b.len() <= 4096))
 }
 
@@ -188,7 +189,9 @@ fn save_passes(
     };
     let (written, rest) = out.split_at_checked(size)?;
     let told = if refusal == 0 { new? } else { &[] };
-    Some(*number == in_decimal(refusal) && written == told && rest.iter().all(|b| *b == UNTOUCHED))
+    // as slices: byte by byte, by `all`, this took a quarter of the program's time
+    let is_rest_untouched = [UNTOUCHED; 4096].get(..rest.len()) == Some(rest);
+    Some(*number == in_decimal(refusal) && written == told && is_rest_untouched)
 }
 
 // ---- the file
@@ -253,7 +256,7 @@ fn replay<R: Print + AllocGlobal>(rt: &R, text: &[u8]) -> io::Result<()> {
     println!(rt; "store {passed} of {total}")
 }
 
-// The same four lines in three programs: they take the heap, which the library that these share may not.
+// The same four lines in four programs: they take the heap, which the library that these share may not.
 fn main(rt: HostRuntime) -> io::Result<()> {
     let mut text = Vec::new(rt.alloc());
     let file = fs::open(&rt, "store.txt")?;
