@@ -258,7 +258,7 @@ fn replay<R: Print + AllocGlobal>(rt: &R, text: &[u8]) -> io::Result<()> {
 
 // The same four lines in four programs: they take the heap, which the library that these share may not.
 fn main(rt: HostRuntime) -> io::Result<()> {
-    let mut text = Vec::new(rt.alloc());
+    let mut text = Vec::with_capacity(rt.alloc(), ROOM as usize)?;
     let file = fs::open(&rt, "store.txt")?;
     file.take(ROOM).read_to_end(&mut text)?;
     replay(&rt, &text)
