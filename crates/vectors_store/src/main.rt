@@ -189,7 +189,7 @@ fn save_passes(
     };
     let (written, rest) = out.split_at_checked(size)?;
     let told = if refusal == 0 { new? } else { &[] };
-    // as slices: byte by byte, by `all`, this took a quarter of the program's time
+    // as slices: byte by byte, by `all`, this took a fifth of the program's instructions
     let is_rest_untouched = [UNTOUCHED; 4096].get(..rest.len()) == Some(rest);
     Some(*number == in_decimal(refusal) && written == told && is_rest_untouched)
 }
